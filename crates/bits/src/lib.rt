@@ -1,0 +1,1 @@
+// Fields of bits in bytes.
