@@ -1,0 +1,158 @@
+-- The marked cases: one table of questions with the figures that document 01 gives, and one evaluator of the definitions.
+use mathlib.Core.Path.{_≡_}
+use mathlib.Core.List.{List, [], _∷_, map}
+use Prim.Native.Nat.{ℕ}
+use Rattle.rules.specs.Replies.{Reply, granted, refused}
+use Rattle.rules.specs.Price.{askPrice}
+use Rattle.rules.specs.Table.{View, viewOf}
+use Rattle.rules.specs.Bounds.{load, backlog, delay, endToEnd}
+use Rattle.rules.specs.Judgement.{judge, buffer}
+use Rattle.rules.specs.Machine.{listed}
+
+-- A price for a framing and a payload, or a table's bytes judged with so many bytes lent.
+pub data Question : Type 0 where
+  pricing : ℕ → ℕ → Question
+  judging : List ℕ → ℕ → Question
+
+-- The reply, each wire's load, backlog and delay, each channel's end-to-end delay, and the lent bytes afterwards.
+pub record Figures : Type 0 where
+  pub reply : Reply
+  pub loads : List ℕ
+  pub backlogs : List ℕ
+  pub delays : List ℕ
+  pub ends : List ℕ
+  pub lent : List ℕ
+
+unfoldable pub figuresOf : Reply → View → List ℕ → Figures
+figuresOf reply t lent =
+    record {
+      reply = reply;
+      loads = listed (load t) (t .wires);
+      backlogs = listed (backlog t) (t .wires);
+      delays = listed (delay t) (t .wires);
+      ends = listed (endToEnd t) (t .channels);
+      lent = lent;
+    }
+
+abbrev pub onlyReply : Reply → Figures
+onlyReply reply = record { reply = reply; loads = []; backlogs = []; delays = []; ends = []; lent = [] }
+
+unfoldable pub evaluate : Question → Figures
+evaluate (pricing framing payload) = onlyReply (askPrice framing payload)
+evaluate (judging s lent) = figuresOf (judge s lent) (viewOf s) (buffer s lent)
+
+pub record Case : Type 0 where
+  pub question : Question
+  pub figures : Figures
+
+abbrev pub priced : ℕ → ℕ → ℕ → Case
+priced framing payload bytes =
+    record { question = pricing framing payload; figures = onlyReply (granted (bytes ∷ [])) }
+
+abbrev pub cases : List Case
+cases =
+    priced 0 1 84
+    ∷ priced 0 37 84
+    ∷ priced 0 38 84
+    ∷ priced 0 39 85
+    ∷ priced 0 1492 1538
+    ∷ priced 0 1493 1622
+    ∷ priced 1 10 84
+    ∷ priced 1 11 85
+    ∷ priced 1 1465 1622
+    -- Case A, to the byte.
+    ∷ (record {
+      question = judging (0x00 ∷ 0x03 ∷ 0x48 ∷ 0x02 ∷ 0x02 ∷ 0x00 ∷ 0xe0 ∷ 0x00 ∷ 0x0a ∷ 0x80 ∷ 0x00 ∷ 0x10 ∷ 0x00 ∷ 0x05 ∷ 0x40 ∷ 0x00 ∷ 0x05 ∷ 0xb1 ∷ 0x00 ∷ []) 12;
+      figures =
+          record {
+            reply = granted (12 ∷ []);
+            loads = 840 ∷ [];
+            backlogs = 84 ∷ [];
+            delays = 84 ∷ [];
+            ends = 91 ∷ [];
+            lent = 0x02 ∷ 0x02 ∷ 0x00 ∷ 0x00 ∷ 0xa8 ∷ 0x00 ∷ 0x00 ∷ 0xa8 ∷ 0x00 ∷ 0x00 ∷ 0x0b ∷ 0x60 ∷ [];
+          };
+    })
+    -- Case A with deadline 90.
+    ∷ (record {
+      question = judging (0x00 ∷ 0x03 ∷ 0x48 ∷ 0x02 ∷ 0x02 ∷ 0x00 ∷ 0xe0 ∷ 0x00 ∷ 0x0a ∷ 0x80 ∷ 0x00 ∷ 0x10 ∷ 0x00 ∷ 0x05 ∷ 0x40 ∷ 0x00 ∷ 0x05 ∷ 0xa1 ∷ 0x00 ∷ []) 12;
+      figures =
+          record {
+            reply = refused 14 0;
+            loads = 840 ∷ [];
+            backlogs = 84 ∷ [];
+            delays = 84 ∷ [];
+            ends = 91 ∷ [];
+            lent = 0xff ∷ 0xff ∷ 0xff ∷ 0xff ∷ 0xff ∷ 0xff ∷ 0xff ∷ 0xff ∷ 0xff ∷ 0xff ∷ 0xff ∷ 0xff ∷ [];
+          };
+    })
+    -- Case A with room 83.
+    ∷ (record {
+      question = judging (0x00 ∷ 0x03 ∷ 0x48 ∷ 0x02 ∷ 0x02 ∷ 0x00 ∷ 0xe0 ∷ 0x00 ∷ 0x0a ∷ 0x60 ∷ 0x00 ∷ 0x10 ∷ 0x00 ∷ 0x05 ∷ 0x40 ∷ 0x00 ∷ 0x05 ∷ 0xb1 ∷ 0x00 ∷ []) 12;
+      figures =
+          record {
+            reply = refused 13 0;
+            loads = 840 ∷ [];
+            backlogs = 84 ∷ [];
+            delays = 84 ∷ [];
+            ends = 91 ∷ [];
+            lent = 0xff ∷ 0xff ∷ 0xff ∷ 0xff ∷ 0xff ∷ 0xff ∷ 0xff ∷ 0xff ∷ 0xff ∷ 0xff ∷ 0xff ∷ 0xff ∷ [];
+          };
+    })
+    -- Case A with payload 39.
+    ∷ (record {
+      question = judging (0x00 ∷ 0x03 ∷ 0x48 ∷ 0x02 ∷ 0x02 ∷ 0x00 ∷ 0xe0 ∷ 0x00 ∷ 0x0a ∷ 0x80 ∷ 0x02 ∷ 0x70 ∷ 0x00 ∷ 0x05 ∷ 0x40 ∷ 0x00 ∷ 0x05 ∷ 0xb1 ∷ 0x00 ∷ []) 12;
+      figures =
+          record {
+            reply = refused 12 0;
+            loads = 850 ∷ [];
+            backlogs = 85 ∷ [];
+            delays = 85 ∷ [];
+            ends = 92 ∷ [];
+            lent = 0xff ∷ 0xff ∷ 0xff ∷ 0xff ∷ 0xff ∷ 0xff ∷ 0xff ∷ 0xff ∷ 0xff ∷ 0xff ∷ 0xff ∷ 0xff ∷ [];
+          };
+    })
+    -- Case B.
+    ∷ (record {
+      question = judging (0x00 ∷ 0x00 ∷ 0xfc ∷ 0x02 ∷ 0x06 ∷ 0x00 ∷ 0x00 ∷ 0x00 ∷ 0x1f ∷ 0x80 ∷ 0x00 ∷ 0x10 ∷ 0x00 ∷ 0x0f ∷ 0xc0 ∷ 0x00 ∷ 0x3e ∷ 0x81 ∷ 0x00 ∷ 0x00 ∷ 0x02 ∷ 0x00 ∷ 0x01 ∷ 0xf8 ∷ 0x00 ∷ 0x07 ∷ 0xd0 ∷ 0x20 ∷ 0x00 ∷ 0x00 ∷ 0x40 ∷ 0x00 ∷ 0x3f ∷ 0x00 ∷ 0x00 ∷ 0xfa ∷ 0x04 ∷ 0x00 ∷ []) 20;
+      figures =
+          record {
+            reply = granted (19 ∷ []);
+            loads = 252 ∷ [];
+            backlogs = 252 ∷ [];
+            delays = 252 ∷ [];
+            ends = 252 ∷ 252 ∷ 252 ∷ [];
+            lent = 0x02 ∷ 0x06 ∷ 0x00 ∷ 0x01 ∷ 0xf8 ∷ 0x00 ∷ 0x01 ∷ 0xf8 ∷ 0x00 ∷ 0x00 ∷ 0x1f ∷ 0x80 ∷ 0x00 ∷ 0x01 ∷ 0xf8 ∷ 0x00 ∷ 0x00 ∷ 0x1f ∷ 0x80 ∷ 0xff ∷ [];
+          };
+    })
+    -- Case C.
+    ∷ (record {
+      question = judging (0x00 ∷ 0x03 ∷ 0x48 ∷ 0x04 ∷ 0x06 ∷ 0x00 ∷ 0xe0 ∷ 0x04 ∷ 0xe2 ∷ 0x00 ∷ 0x0e ∷ 0x00 ∷ 0x4e ∷ 0x20 ∷ 0x00 ∷ 0x01 ∷ 0x00 ∷ 0x03 ∷ 0x48 ∷ 0x00 ∷ 0x27 ∷ 0x10 ∷ 0x20 ∷ 0x01 ∷ 0x00 ∷ 0x00 ∷ 0x80 ∷ 0x01 ∷ 0xa4 ∷ 0x00 ∷ 0x13 ∷ 0x88 ∷ 0x10 ∷ 0x00 ∷ 0x80 ∷ 0x00 ∷ 0x40 ∷ 0x00 ∷ 0x69 ∷ 0x00 ∷ 0x09 ∷ 0xc4 ∷ 0x04 ∷ 0x10 ∷ []) 27;
+      figures =
+          record {
+            reply = granted (25 ∷ []);
+            loads = 168 ∷ 336 ∷ [];
+            backlogs = 168 ∷ 285 ∷ [];
+            delays = 168 ∷ 285 ∷ [];
+            ends = 467 ∷ 467 ∷ 292 ∷ [];
+            lent = 0x04 ∷ 0x06 ∷ 0x00 ∷ 0x01 ∷ 0x50 ∷ 0x00 ∷ 0x01 ∷ 0x50 ∷ 0x00 ∷ 0x02 ∷ 0x3a ∷ 0x00 ∷ 0x02 ∷ 0x3a ∷ 0x00 ∷ 0x00 ∷ 0x3a ∷ 0x60 ∷ 0x00 ∷ 0x03 ∷ 0xa6 ∷ 0x00 ∷ 0x00 ∷ 0x24 ∷ 0x80 ∷ 0xff ∷ 0xff ∷ [];
+          };
+    })
+    -- Case C with wire 1 at rate 10.
+    ∷ (record {
+      question = judging (0x00 ∷ 0x03 ∷ 0x48 ∷ 0x04 ∷ 0x06 ∷ 0x00 ∷ 0xe0 ∷ 0x04 ∷ 0xe2 ∷ 0x08 ∷ 0x0e ∷ 0x00 ∷ 0x4e ∷ 0x20 ∷ 0x00 ∷ 0x01 ∷ 0x00 ∷ 0x03 ∷ 0x48 ∷ 0x00 ∷ 0x27 ∷ 0x10 ∷ 0x20 ∷ 0x01 ∷ 0x00 ∷ 0x00 ∷ 0x80 ∷ 0x01 ∷ 0xa4 ∷ 0x00 ∷ 0x13 ∷ 0x88 ∷ 0x10 ∷ 0x00 ∷ 0x80 ∷ 0x00 ∷ 0x40 ∷ 0x00 ∷ 0x69 ∷ 0x00 ∷ 0x09 ∷ 0xc4 ∷ 0x04 ∷ 0x10 ∷ []) 27;
+      figures =
+          record {
+            reply = granted (25 ∷ []);
+            loads = 168 ∷ 336 ∷ [];
+            backlogs = 168 ∷ 285 ∷ [];
+            delays = 168 ∷ 29 ∷ [];
+            ends = 211 ∷ 211 ∷ 36 ∷ [];
+            lent = 0x04 ∷ 0x06 ∷ 0x00 ∷ 0x01 ∷ 0x50 ∷ 0x00 ∷ 0x01 ∷ 0x50 ∷ 0x00 ∷ 0x02 ∷ 0x3a ∷ 0x00 ∷ 0x00 ∷ 0x3a ∷ 0x00 ∷ 0x00 ∷ 0x1a ∷ 0x60 ∷ 0x00 ∷ 0x01 ∷ 0xa6 ∷ 0x00 ∷ 0x00 ∷ 0x04 ∷ 0x80 ∷ 0xff ∷ 0xff ∷ [];
+          };
+    })
+    ∷ []
+
+-- What the definitions say of each question is what stands beside it.
+abbrev pub MarkedCases : Type 0
+MarkedCases = map (λ (c : Case). evaluate (c .question)) cases ≡ map (λ (c : Case). c .figures) cases

@@ -1,0 +1,13 @@
+-- Document 01 as definitions, a file for each of its sections. What stands here is what a reader must believe.
+pub mod Words
+pub mod Numbers
+pub mod Replies
+pub mod Price
+pub mod Table
+pub mod Reading
+pub mod Bounds
+pub mod Sheet
+pub mod Judgement
+pub mod Machine
+pub mod Cases
+pub mod Promise

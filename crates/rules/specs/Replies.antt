@@ -1,0 +1,48 @@
+-- Replies: what was asked, granted with its values; or a refusal with its number and place.
+use mathlib.Core.Bool.{Bool, cond}
+use mathlib.Core.List.{List, [], _∷_}
+use Prim.Native.Nat.{ℕ, zero, suc}
+use Rattle.rules.specs.declared.Pricing.{Pricing}
+use Rattle.rules.specs.declared.Pricing.the-variants as pricing
+use Rattle.rules.specs.declared.Reading.{Reading}
+use Rattle.rules.specs.declared.Reading.the-variants as reading
+use Rattle.rules.specs.declared.Judging.{Judging}
+use Rattle.rules.specs.declared.Judging.the-variants as judging
+use Rattle.rules.specs.declared.AskedWire.{AskedWire}
+use Rattle.rules.specs.declared.AskedWire.the-variants as wire
+use Rattle.rules.specs.declared.AskedChannel.{AskedChannel}
+use Rattle.rules.specs.declared.AskedChannel.the-variants as channel
+
+pub data Reply : Type 0 where
+  granted : List ℕ → Reply
+  refused : ℕ → ℕ → Reply
+
+-- a test: where it fails, the refusal with this number and place; else what follows
+unfoldable pub test : Bool → ℕ → ℕ → Reply → Reply
+test ok number place rest = cond ok rest (refused number place)
+
+-- the tests of item i, then those of item i + 1, and so on for as many items as are left; then what follows
+unfoldable pub each : (ℕ → Reply → Reply) → ℕ → ℕ → Reply → Reply
+each tests i zero rest = rest
+each tests i (suc left) rest = tests i (each tests (suc i) left rest)
+
+-- Of each answer's cases, this document's reply.
+abbrev pub pricingReply : Pricing → Reply
+pricingReply (pricing.Price bytes) = granted (bytes ∷ [])
+pricingReply (pricing.Refused number place) = refused number place
+
+abbrev pub readingReply : Reading → Reply
+readingReply reading.Read = granted []
+readingReply (reading.Refused number place) = refused number place
+
+abbrev pub judgingReply : Judging → Reply
+judgingReply (judging.Accepted length) = granted (length ∷ [])
+judgingReply (judging.Refused number place) = refused number place
+
+abbrev pub wireReply : AskedWire → Reply
+wireReply (wire.Figures backlog delay) = granted (backlog ∷ delay ∷ [])
+wireReply (wire.Refused number place) = refused number place
+
+abbrev pub channelReply : AskedChannel → Reply
+channelReply (channel.Delay delay) = granted (delay ∷ [])
+channelReply (channel.Refused number place) = refused number place

@@ -1,0 +1,32 @@
+-- Words that several sections use.
+use mathlib.Core.Bool.{Bool, true, false, cond, _&&_, _||_}
+use mathlib.Core.List.{List, [], _∷_}
+use Prim.Native.Nat.{ℕ, zero, suc, _+_, _-_, _/_}
+use lib.Dec.{leb, eqb}
+
+-- f 0 + f 1 + .. + f (n - 1)
+unfoldable pub sum : (ℕ → ℕ) → ℕ → ℕ
+sum f zero = 0
+sum f (suc n) = sum f n + f n
+
+-- the sum of f over a list
+unfoldable pub total : {A : Type 0} → (A → ℕ) → List A → ℕ
+total f [] = 0
+total f (x ∷ xs) = f x + total f xs
+
+-- a / b, rounded up
+abbrev pub up : ℕ → ℕ → ℕ
+up a b = (a + (b - 1)) / b
+
+-- low ≤ x ≤ high
+abbrev pub between : ℕ → ℕ → ℕ → Bool
+between low x high = leb low x && leb x high
+
+-- x where the test holds, else 0
+abbrev pub only : Bool → ℕ → ℕ
+only ok x = cond ok x 0
+
+-- the number w is in the list
+unfoldable pub has : ℕ → List ℕ → Bool
+has w [] = false
+has w (x ∷ xs) = eqb x w || has w xs
