@@ -1,2 +1,4 @@
 pub mod Cases
 pub mod Sound
+pub mod Prices
+pub mod Replies
