@@ -2,3 +2,4 @@ pub mod Cases
 pub mod Sound
 pub mod Prices
 pub mod Replies
+pub mod OneReply

@@ -10,11 +10,12 @@ use native.Mathlib.Decide.{decLe, decLt}
 use native.Mathlib.Nat.{mod-lt, div-add-mod', div-mul-le-self, le-div-iff-mul-le, le-trans, zero-mul, suc-mul}
 use lib.ListN.{length, getD, replicate}
 use lib.Dec.{leb, eqb, eqb·suc-zero}
-use borrow.Author.Tests.{le-leb, lt-leb}
+use borrow.Author.Tests.{eq-eqb, ne-eqb, le-leb, lt-leb, lt-ltb, le-ltb}
 use Rattle.rules.specs.declared.Row.{Row}
 use Rattle.rules.specs.Words.{total}
 use Rattle.rules.specs.Numbers.{payloadMost}
-use Rattle.rules.specs.Price.{rowOf, fullFrame, smallFrame, lastBytes, price, lastFrame, frames}
+use Rattle.rules.specs.Replies.{Reply, granted, refused, test}
+use Rattle.rules.specs.Price.{rowOf, fullFrame, smallFrame, lastBytes, price, lastFrame, frames, askPrice}
 
 -- what both rows have in common
 pub record Fair (row : Row) : Type 0 where
@@ -28,28 +29,37 @@ fair (suc zero) h = record { some = omega arith; full = refl; small = refl }
 fair (suc (suc n)) h = absurd (omega arith)
 
 -- a remainder's frame: none, the smallest, or remainder + overhead
-pub last-none : (row : Row) → lastBytes row 0 ≡ 0
+pub last-none : (row : Row) (rest : ℕ) → rest ≡ 0 → lastBytes row rest ≡ 0
 unfolding lastBytes
-last-none row = refl
+last-none row rest e = rw (eq-eqb rest 0 e)
 
--- a frame of a remainder below the data is 84 to 1,538 bytes, and holds the remainder with its overhead
-pub last-some : (row : Row) → Fair row → (rest : ℕ) → 1 ≤ rest → (smallFrame ≤ lastBytes row rest) × (rest + row .overhead ≤ lastBytes row rest) × ((lastBytes row rest ≡ smallFrame) ⊎ (lastBytes row rest ≡ rest + row .overhead))
+pub last-small : (row : Row) (rest : ℕ) → 1 ≤ rest → rest < row .least → lastBytes row rest ≡ smallFrame
 unfolding lastBytes
-last-some row f zero h = absurd (omega arith)
-last-some row f (suc r) h =
-    rw eqb·suc-zero
-    (elim (decLe (row .least) (suc r)) [
-      yes l ↦ rw (le-leb (row .least) (suc r) l) (omega (arith, f .small), omega arith, inr refl)
-      | no n ↦ rw (lt-leb (row .least) (suc r) (omega arith)) (omega arith, omega (arith, f .small), inl refl)
-    ])
+last-small row rest h l = rw (ne-eqb rest 0 (λ (e : rest ≡ 0). omega arith), lt-leb (row .least) rest l)
+
+pub last-large : (row : Row) (rest : ℕ) → 1 ≤ rest → row .least ≤ rest → lastBytes row rest ≡ rest + row .overhead
+unfolding lastBytes
+last-large row rest h l = rw (ne-eqb rest 0 (λ (e : rest ≡ 0). omega arith), le-leb (row .least) rest l)
+
+-- a frame holds its remainder with the overhead, and is no smaller than the smallest
+last-some : (row : Row) → Fair row → (rest : ℕ) → 1 ≤ rest → (smallFrame ≤ lastBytes row rest) × (rest + row .overhead ≤ lastBytes row rest) × ((lastBytes row rest ≡ smallFrame) ⊎ (lastBytes row rest ≡ rest + row .overhead))
+last-some row f rest h =
+    elim (decLe (row .least) rest) [
+      yes l ↦
+        let e = last-large row rest h l in
+        (omega (arith, e, f .small), omega (arith, e), inr e)
+      | no n ↦
+        let e = last-small row rest h (omega arith) in
+        (omega (arith, e), omega (arith, e, f .small), inl e)
+    ]
 
 pub last-most : (row : Row) → Fair row → (rest : ℕ) → rest < row .most → lastBytes row rest ≤ fullFrame
-last-most row f zero h = rw last-none (omega arith)
+last-most row f zero h = omega (arith, last-none row 0 refl)
 last-most row f (suc r) h =
     elim (last-some row f (suc r) (omega arith) .2) [ inl e ↦ omega (arith, e) | inr e ↦ omega (arith, e, f .full) ]
 
 last-grows : (row : Row) → Fair row → (a b : ℕ) → a ≤ b → lastBytes row a ≤ lastBytes row b
-last-grows row f zero b l = rw last-none (omega arith)
+last-grows row f zero b l = omega (arith, last-none row 0 refl)
 last-grows row f (suc a) b l =
     let big = last-some row f b (omega arith) in
     elim (last-some row f (suc a) (omega arith) .2) [ inl e ↦ omega (arith, e, big .0) | inr e ↦ omega (arith, e, big .1) ]
@@ -115,7 +125,7 @@ total-append f (x ∷ xs) ys = omega (arith, total-append f xs ys)
 
 total-last : (row : Row) (rest : ℕ) → total (λ (y : ℕ). y) (lastFrame row rest) ≡ lastBytes row rest
 unfolding total lastFrame
-total-last row zero = sym (last-none row)
+total-last row zero = sym (last-none row 0 refl)
 total-last row (suc r) = rw eqb·suc-zero (omega arith)
 
 pub frames-price : (framing payload : ℕ) → total (λ (x : ℕ). x) (frames framing payload) ≡ price framing payload
@@ -156,3 +166,17 @@ frames-sizes framing payload h =
     every-append FrameSize (replicate (payload / row .most) fullFrame) (lastFrame row (payload % row .most))
     (every-replicate FrameSize (payload / row .most) fullFrame (omega arith))
     (every-last row f (payload % row .most) (mod-lt payload (f .some)))
+
+-- Asking a price, by its three replies.
+pub ask-framing : (framing payload : ℕ) → 2 ≤ framing → askPrice framing payload ≡ refused 20 0
+unfolding askPrice test
+ask-framing framing payload h = rw (le-ltb framing 2 h)
+
+pub ask-payload : (framing payload : ℕ) → framing ≤ 1 → (payload < 1) ⊎ (payloadMost < payload) → askPrice framing payload ≡ refused 6 0
+unfolding askPrice test
+ask-payload framing payload h (inl l) = rw (lt-ltb framing 2 (omega arith), lt-leb 1 payload l)
+ask-payload framing payload h (inr l) = rw (lt-ltb framing 2 (omega arith), le-leb 1 payload (omega arith), lt-leb payload payloadMost l)
+
+pub ask-granted : (framing payload : ℕ) → framing ≤ 1 → 1 ≤ payload → payload ≤ payloadMost → askPrice framing payload ≡ granted (price framing payload ∷ [])
+unfolding askPrice test
+ask-granted framing payload h l m = rw (lt-ltb framing 2 (omega arith), le-leb 1 payload l, le-leb payload payloadMost m)

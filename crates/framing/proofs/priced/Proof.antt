@@ -1,3 +1,5 @@
+-- `framing::priced` meets its contract.
+use mathlib.Core.Path.{refl}
 use borrow.Author.Needs.{needs}
 use Prim.Native.Nat.{_%_}
 use native.Mathlib.Omega.{arith}
@@ -50,7 +52,7 @@ add-result c =
 -- src/lib.rt:58:1
 returns : tie.Need-returns
 unfolding price
-returns c = rw (c .last-bytes .ensures)
+returns c = rw (c .last-bytes .ensures) refl
 
 pub priced-spec : {M : Type 1} → statement M
 priced-spec =
