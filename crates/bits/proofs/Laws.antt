@@ -2,6 +2,7 @@
 -- Assumes nothing.
 use mathlib.Core.Path.{_≡_, refl, sym, ap, ap₂, subst, _∙_}
 use mathlib.Core.Logic.{_≢_, _⊎_, inl, inr}
+use mathlib.Core.Bool.{true}
 use mathlib.Core.List.{List, _++_}
 use Prim.Native.Nat.{ℕ, zero, suc, _+_, _-_, _*_, _/_, _%_, _^_, _≤_, _<_}
 use native.Mathlib.Nat.{zero-lt-suc, le-dest, add-zero, add-suc, pow-suc, zero-div, mod-lt, mod-eq-of-lt, mul-le-mul-right, mul-add-div-right, mul-add-mod-self-right, div-add-mod'}
@@ -11,7 +12,9 @@ use lib.ListN.{length, getD, set, take, replicate, length-set, getD-replicate, l
 use lib.Seq.{getD-set-same, getD-set-other, set-out, getD-take, getD-append-add, ext-getD}
 use lib.Arith.{digits-lt, digits-mod}
 use lib.Pow.{pow-pos, pow-add, shr-lt, shr-shr, split, high, mod-pow-add}
-use Rattle.bits.specs.Field.{bit, field, byteWith, putBit, putField, Bytes}
+use borrow.Author.Tests.{le-leb, leb-true, lt-ltb}
+use Rattle.bits.specs.Field.{bit, field, within, byteWith, putBit, putField, Bytes, widest, served, takenOf, fieldFits, wroteField}
+use Rattle.bits.specs.declared.Taken.the-variants.{Number}
 
 -- ---- one binary digit of a number
 
@@ -19,7 +22,7 @@ use Rattle.bits.specs.Field.{bit, field, byteWith, putBit, putField, Byt
 digit-low : (h l j d : ℕ) → (h * 2 ^ (suc d + j) + l) / 2 ^ j % 2 ≡ l / 2 ^ j % 2
 digit-low h l j d =
     let e : h * 2 ^ (suc d + j) ≡ h * 2 ^ d * 2 * 2 ^ j
-          = omega (arith, ap (λ (x : ℕ). h * x) (pow-add 2 (suc d) j), ap (λ (x : ℕ). h * (x * 2 ^ j)) (pow-suc 2 d)) in
+    = omega (arith, ap (λ (x : ℕ). h * x) (pow-add 2 (suc d) j), ap (λ (x : ℕ). h * (x * 2 ^ j)) (pow-suc 2 d)) in
     ap (λ (x : ℕ). (x + l) / 2 ^ j % 2) e
     ∙ ap (λ (x : ℕ). x % 2) (mul-add-div-right (pow-pos j) (h * 2 ^ d * 2) l)
     ∙ mul-add-mod-self-right (h * 2 ^ d) 2 (l / 2 ^ j)
@@ -44,17 +47,18 @@ module _ (x k b : ℕ) (two : b < 2) where
 
   digit-other : (j : ℕ) → j ≢ k → byteWith x k b / 2 ^ j % 2 ≡ x / 2 ^ j % 2
   digit-other j ne = elim (decLt j k) [
-      yes l ↦
+    | yes l ↦
         let d : ℕ = le-dest l .0 in
         let e : suc d + j ≡ k = omega (arith, le-dest l .1) in
         let cut : (h : ℕ) → (h * 2 ^ k + x % 2 ^ k) / 2 ^ j % 2 ≡ x % 2 ^ k / 2 ^ j % 2
-              = λ h. subst (λ (m : ℕ). (h * 2 ^ m + x % 2 ^ k) / 2 ^ j % 2 ≡ x % 2 ^ k / 2 ^ j % 2) e (digit-low h (x % 2 ^ k) j d) in
+        = λ h. subst (λ (m : ℕ). (h * 2 ^ m + x % 2 ^ k) / 2 ^ j % 2 ≡ x % 2 ^ k / 2 ^ j % 2) e (digit-low h (x % 2 ^ k) j d) in
         ap (λ (y : ℕ). y / 2 ^ j % 2) byte-low ∙ cut (x / 2 ^ suc k * 2 + b) ∙ sym (cut (x / 2 ^ k)) ∙ ap (λ (y : ℕ). y / 2 ^ j % 2) (split x k)
     | no n ↦
         let l : k < j = omega arith in
         let d : ℕ = le-dest l .0 in
         subst (λ (m : ℕ). byteWith x k b / 2 ^ m % 2 ≡ x / 2 ^ m % 2) (le-dest l .1)
-        (ap (λ (y : ℕ). y % 2) (sym (shr-shr (byteWith x k b) (suc k) d) ∙ ap (λ (y : ℕ). y / 2 ^ d) byte-high ∙ shr-shr x (suc k) d)) ]
+        (ap (λ (y : ℕ). y % 2) (sym (shr-shr (byteWith x k b) (suc k) d) ∙ ap (λ (y : ℕ). y / 2 ^ d) byte-high ∙ shr-shr x (suc k) d))
+  ]
 
   -- the old digit is taken away and the new one put there
   pub byte-moved : byteWith x k b ≡ x - x / 2 ^ k % 2 * 2 ^ k + b * 2 ^ k
@@ -100,7 +104,7 @@ bit-from s at k = rw (byte-from at k, place-from at k)
 
 pub putBit-from : (s : List ℕ) (at k b : ℕ)
     → putBit s (at + k) b
-      ≡ set s (at / 8 + (at % 8 + k) / 8) (byteWith (getD s (at / 8 + (at % 8 + k) / 8) 0) (7 - (at % 8 + k) % 8) b)
+    ≡ set s (at / 8 + (at % 8 + k) / 8) (byteWith (getD s (at / 8 + (at % 8 + k) / 8) 0) (7 - (at % 8 + k) % 8) b)
 unfolding putBit
 putBit-from s at k b = rw (byte-from at k, place-from at k)
 
@@ -115,24 +119,28 @@ bit-putBit s i b h two = rw (getD-set-same s (i / 8) _ 0 (omega arith)) (digit-s
 -- after a store at n, the place m has what was stored, or what it had
 stored : (s : List ℕ) (n y m : ℕ) → ((m ≡ n) × (getD (set s n y) m 0 ≡ y)) ⊎ (getD (set s n y) m 0 ≡ getD s m 0)
 stored s n y m = elim (ℕ-discrete m n) [
-    no o ↦ inr (getD-set-other s n m y 0 o)
+  | no o ↦ inr (getD-set-other s n m y 0 o)
   | yes e ↦ elim (decLt n (length s)) [
-        no o ↦ inr (ap (λ (t : List ℕ). getD t m 0) (set-out s n y (omega arith)))
-      | yes l ↦ inl (e, rw e (getD-set-same s n y 0 l)) ] ]
+    | no o ↦ inr (ap (λ (t : List ℕ). getD t m 0) (set-out s n y (omega arith)))
+    | yes l ↦ inl (e, rw e (getD-set-same s n y 0 l))
+  ]
+]
 
 pub bit-putBit-other : (s : List ℕ) (i b j : ℕ) → b < 2 → j ≢ i → bit (putBit s i b) j ≡ bit s j
 unfolding bit putBit
 bit-putBit-other s i b j two ne = elim (stored s (i / 8) (byteWith (getD s (i / 8) 0) (7 - i % 8) b) (j / 8)) [
-    inr e ↦ rw e
+  | inr e ↦ rw e
   | inl e ↦
       rw (e .1, e .0)
-      (digit-other (getD s (i / 8) 0) (7 - i % 8) b two (7 - j % 8) (λ q. ne (omega (arith, e .0)))) ]
+      (digit-other (getD s (i / 8) 0) (7 - i % 8) b two (7 - j % 8) (λ q. ne (omega (arith, e .0))))
+]
 
 pub bytes-putBit : (s : List ℕ) (i b : ℕ) → b < 2 → Bytes s → Bytes (putBit s i b)
 unfolding putBit
 bytes-putBit s i b two h j = elim (stored s (i / 8) (byteWith (getD s (i / 8) 0) (7 - i % 8) b) j) [
-    inr e ↦ rw e (h j)
-  | inl e ↦ rw (e .1) (byte-lt (getD s (i / 8) 0) (7 - i % 8) b two (omega arith) (h (i / 8))) ]
+  | inr e ↦ rw e (h j)
+  | inl e ↦ rw (e .1) (byte-lt (getD s (i / 8) 0) (7 - i % 8) b two (omega arith) (h (i / 8)))
+]
 
 -- a byte past the end is 0, and so are its bits
 pub bit-past : (s : List ℕ) (i : ℕ) → 8 * length s ≤ i → bit s i ≡ 0
@@ -169,14 +177,14 @@ pub bits-eq : (s t : List ℕ) → Bytes s → Bytes t → length s ≡ length t
 unfolding bit
 bits-eq s t hs ht e h =
     ext-getD 0 s t e (λ n l.
-      sym (mod-eq-of-lt (hs n))
-      ∙ digits-eq (getD s n 0) (getD t n 0) 8 (λ j m.
-          let q : (8 * n + (7 - j)) / 8 ≡ n = omega arith in
-          let r : 7 - (8 * n + (7 - j)) % 8 ≡ j = omega arith in
-          subst (λ (u : ℕ). getD s u 0 / 2 ^ j % 2 ≡ getD t u 0 / 2 ^ j % 2) q
-          (subst (λ (u : ℕ). getD s ((8 * n + (7 - j)) / 8) 0 / 2 ^ u % 2 ≡ getD t ((8 * n + (7 - j)) / 8) 0 / 2 ^ u % 2) r
-          (h (8 * n + (7 - j)) (omega arith))))
-      ∙ mod-eq-of-lt (ht n))
+    sym (mod-eq-of-lt (hs n))
+    ∙ digits-eq (getD s n 0) (getD t n 0) 8 (λ j m.
+    let q : (8 * n + (7 - j)) / 8 ≡ n = omega arith in
+    let r : 7 - (8 * n + (7 - j)) % 8 ≡ j = omega arith in
+    subst (λ (u : ℕ). getD s u 0 / 2 ^ j % 2 ≡ getD t u 0 / 2 ^ j % 2) q
+    (subst (λ (u : ℕ). getD s ((8 * n + (7 - j)) / 8) 0 / 2 ^ u % 2 ≡ getD t ((8 * n + (7 - j)) / 8) 0 / 2 ^ u % 2) r
+    (h (8 * n + (7 - j)) (omega arith))))
+    ∙ mod-eq-of-lt (ht n))
 
 -- ---- fields
 
@@ -196,8 +204,9 @@ pub same-bits : (s t : List ℕ) (a b w : ℕ) → field s a w ≡ field t b w �
 unfolding field
 same-bits s t a b zero e k l = absurd (omega arith)
 same-bits s t a b (suc w) e k l = elim (ℕ-discrete k w) [
-    yes q ↦ rw q (omega (arith, bit-lt s (a + w), bit-lt t (b + w)))
-  | no n ↦ same-bits s t a b w (omega (arith, bit-lt s (a + w), bit-lt t (b + w))) k (omega arith) ]
+  | yes q ↦ rw q (omega (arith, bit-lt s (a + w), bit-lt t (b + w)))
+  | no n ↦ same-bits s t a b w (omega (arith, bit-lt s (a + w), bit-lt t (b + w))) k (omega arith)
+]
 
 -- a field is what its bits are
 pub field-cong : (s t : List ℕ) (at w : ℕ) → ((i : ℕ) → at ≤ i → i < at + w → bit s i ≡ bit t i) → field s at w ≡ field t at w
@@ -233,8 +242,8 @@ field-append s t at w h = field-cong (s ++ t) s at w (λ i l m. bit-append s t i
 pub field-append-past : (s t : List ℕ) (at w : ℕ) → field (s ++ t) (8 * length s + at) w ≡ field t at w
 field-append-past s t at w =
     field-same (s ++ t) t (8 * length s + at) at w (λ k l.
-      let e : 8 * length s + at + k ≡ 8 * length s + (at + k) = omega arith in
-      ap (λ (m : ℕ). bit (s ++ t) m) e ∙ bit-append-past s t (at + k))
+    let e : 8 * length s + at + k ≡ 8 * length s + (at + k) = omega arith in
+    ap (λ (m : ℕ). bit (s ++ t) m) e ∙ bit-append-past s t (at + k))
 
 pub field-take : (s : List ℕ) (n at w : ℕ) → at + w ≤ 8 * n → field (take n s) at w ≡ field s at w
 field-take s n at w h = field-cong (take n s) s at w (λ i l m. bit-take s n i (omega arith))
@@ -258,7 +267,7 @@ bit-putField-other s at (suc w) v i o =
 pub field-putField-other : (s : List ℕ) (at w v at' w' : ℕ) → (at' + w' ≤ at) ⊎ (at + w ≤ at') → field (putField s at w v) at' w' ≡ field s at' w'
 field-putField-other s at w v at' w' o =
     field-cong (putField s at w v) s at' w' (λ i l h.
-      bit-putField-other s at w v i (elim o [ inl a ↦ inl (omega arith) | inr a ↦ inr (omega arith) ]))
+    bit-putField-other s at w v i (elim o [ inl a ↦ inl (omega arith) | inr a ↦ inr (omega arith) ]))
 
 -- what was written is read
 pub field-putField : (s : List ℕ) (at w v : ℕ) → at + w ≤ 8 * length s → v < 2 ^ w → field (putField s at w v) at w ≡ v
@@ -269,10 +278,28 @@ field-putField s at (suc w) v h l =
     let n : length p ≡ length s = length-putField s at w (v / 2) in
     let b : bit (putBit p (at + w) (v % 2)) (at + w) ≡ v % 2 = bit-putBit p (at + w) (v % 2) (omega arith) (omega arith) in
     let q : field (putBit p (at + w) (v % 2)) at w ≡ field p at w
-          = field-cong (putBit p (at + w) (v % 2)) p at w (λ i a z. bit-putBit-other p (at + w) (v % 2) i (omega arith) (λ e. omega arith)) in
+    = field-cong (putBit p (at + w) (v % 2)) p at w (λ i a z. bit-putBit-other p (at + w) (v % 2) i (omega arith) (λ e. omega arith)) in
     omega (arith, q, b, field-putField s at w (v / 2) (omega arith) (omega (arith, pow-suc 2 w)))
 
 pub bytes-putField : (s : List ℕ) (at w v : ℕ) → Bytes s → Bytes (putField s at w v)
 unfolding putField
 bytes-putField s at zero v h = h
 bytes-putField s at (suc w) v h = bytes-putBit (putField s at w (v / 2)) (at + w) (v % 2) (omega arith) (bytes-putField s at w (v / 2) h)
+
+-- ---- the replies where the field is served
+
+pub within-le : (s : List ℕ) (at w : ℕ) → within s at w ≡ true → at + w ≤ 8 * length s
+within-le s at w e = leb-true (at + w) (8 * length s) e
+
+module _ (s : List ℕ) (at w : ℕ) (narrow : w ≤ widest) (inside : at + w ≤ 8 * length s) where
+  pub served-true : served s at w ≡ true
+  served-true = rw (le-leb w widest narrow) (le-leb (at + w) (8 * length s) inside)
+
+  pub takenOf-number : takenOf s at w ≡ Number (field s at w)
+  takenOf-number = rw served-true
+
+  pub fieldFits-true : (v : ℕ) → v < 2 ^ w → fieldFits s at w v ≡ true
+  fieldFits-true v l = rw served-true (lt-ltb v (2 ^ w) l)
+
+  pub wroteField-put : (v : ℕ) → v < 2 ^ w → wroteField s at w v ≡ putField s at w v
+  wroteField-put v l = rw (fieldFits-true v l)

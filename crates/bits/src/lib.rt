@@ -1,6 +1,6 @@
 // Fields of bits in bytes, most significant bit first.
 ghost use mathlib.Core.Path.{_≡_};
-ghost use Prim.Native.Nat.{_+_, _*_, _^_, _≤_, _<_};
+ghost use Prim.Native.Nat.{_+_, _*_, _≤_, _<_};
 ghost use lib.ListN.{length};
 ghost use Rattle.bits.specs.Field.{bit, field, within, putBit, putField, takenOf, fieldFits, wroteField, widest};
 
@@ -76,7 +76,6 @@ fn put_bit(s: &mut [u8], at: usize, k: usize, b: u64)
 fn scatter(s: &mut [u8], at: usize, width: usize, number: u64)
     requires { ⌜ width ≤ widest ⌝ }
     requires { ⌜ at + width ≤ 8 * length (now s) ⌝ }
-    requires { ⌜ number < 2 ^ width ⌝ }
     ensures { λ _. ⌜ now (s .exit) ≡ putField (now (s .entry)) at width number ⌝ }
 {
     for k in 0..width {

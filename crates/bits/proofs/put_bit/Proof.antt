@@ -65,15 +65,19 @@ shl-s-2 c = omega arith
 
 add-s : tie.Need-add-s
 add-s c =
-    omega
-    (arith, coded (c .wide .result) (place c) (st c .args .b) (omega arith) (omega arith),
-      byte-lt (c .wide .result) (place c) (st c .args .b) (omega arith) (omega arith) (byte c))
+    omega (
+      arith,
+      coded (c .wide .result) (place c) (st c .args .b) (omega arith) (omega arith),
+      byte-lt (c .wide .result) (place c) (st c .args .b) (omega arith) (omega arith) (byte c),
+    )
 
 cast-s : tie.Need-cast-s
 cast-s c =
-    omega
-    (arith, coded (c .wide .result) (place c) (st c .args .b) (omega arith) (omega arith),
-      byte-lt (c .wide .result) (place c) (st c .args .b) (omega arith) (omega arith) (byte c))
+    omega (
+      arith,
+      coded (c .wide .result) (place c) (st c .args .b) (omega arith) (omega arith),
+      byte-lt (c .wide .result) (place c) (st c .args .b) (omega arith) (omega arith) (byte c),
+    )
 
 slice-write-s : tie.Need-slice-write-s
 slice-write-s c = omega arith

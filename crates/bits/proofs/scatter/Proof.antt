@@ -59,8 +59,8 @@ loop-again c =
     let lp = c .before .before .before .before .before in
     let a = lp .before .before .args in
     let step : putBit (lp .loop .s) (a .at + lp .loop .k) (a .number / 2 ^ (a .width - 1 - lp .loop .k) % 2) ≡ putField (a .s .now) (a .at) (lp .loop .k + 1) (a .number / 2 ^ (a .width - (lp .loop .k + 1)))
-          = ap (λ (s : List ℕ). putBit s (a .at + lp .loop .k) (a .number / 2 ^ (a .width - 1 - lp .loop .k) % 2)) (lp .loop .inv .1)
-            ∙ more (a .s .now) (a .at) (a .width) (a .number) (lp .loop .k) (omega arith) in
+    = ap (λ (s : List ℕ). putBit s (a .at + lp .loop .k) (a .number / 2 ^ (a .width - 1 - lp .loop .k) % 2)) (lp .loop .inv .1)
+    ∙ more (a .s .now) (a .at) (a .width) (a .number) (lp .loop .k) (omega arith) in
     (omega arith, c .before .before .put-bit .ensures ∙ step)
 
 same-length : tie.Need-same-length Inv-loop μ-loop
