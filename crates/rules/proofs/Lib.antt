@@ -1,3 +1,4 @@
+pub mod Asking
 pub mod Cases
 pub mod SheetLaws
 pub mod Sound

@@ -1,15 +1,15 @@
 -- Laws of the sheet: its length, its bytes, and that each field reads back what was written.
 -- Assumes nothing.
-use mathlib.Core.Path.{_≡_, refl, sym, ap, subst, _∙_}
+use mathlib.Core.Path.{_≡_, refl, subst, _∙_}
 use mathlib.Core.Logic.{_⊎_, inl, inr}
 use mathlib.Core.List.{List}
-use Prim.Native.Nat.{ℕ, zero, suc, _+_, _-_, _*_, _/_, _^_, _≤_, _<_}
+use Prim.Native.Nat.{ℕ, zero, suc, _+_, _*_, _^_, _≤_, _<_}
 use native.Mathlib.Nat.{add-zero, add-suc, le-dest}
 use native.Mathlib.Omega.{arith}
-use lib.ListN.{length, getD, replicate, length-replicate}
+use lib.ListN.{length, replicate, length-replicate}
 use Rattle.bits.specs.Field.{field, putField, Bytes}
 use Rattle.bits.proofs.Laws.{length-putField, field-putField, field-putField-other, field-zeros, bytes-putField}
-use Rattle.rules.specs.Numbers.{wiresBits, wiresMost, channelsBits, channelsMost, sheetHeadBits, backlogBits, delayBits, endBits, sheetLongest}
+use Rattle.rules.specs.Numbers.{wiresBits, wiresMost, channelsBits, channelsMost, backlogBits, delayBits, endBits, sheetLongest}
 use Rattle.rules.specs.Table.{fillingOf}
 use Rattle.rules.specs.Sheet.{figuresAt, endAt, sheetLength, withHead, withWires, withChannels, sheetOf, sheetWires, sheetChannels}
 
@@ -50,8 +50,9 @@ joined a b =
       ordered = omega arith;
       same-length = b .same-length ∙ a .same-length;
       outside = λ at w o. elim o [
-          inl l ↦ b .outside at w (inl (omega arith)) ∙ a .outside at w (inl l)
-        | inr l ↦ b .outside at w (inr l) ∙ a .outside at w (inr (omega arith)) ];
+        | inl l ↦ b .outside at w (inl (omega arith)) ∙ a .outside at w (inl l)
+        | inr l ↦ b .outside at w (inr l) ∙ a .outside at w (inr (omega arith))
+      ];
       stays = λ h. b .stays (a .stays h);
     }
 
