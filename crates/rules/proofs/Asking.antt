@@ -96,7 +96,7 @@ ask-short s l = always s (refused 16 0) (λ rest. rw (lt-leb 2 (length s) l))
 abbrev pub NoSheet : ℕ → List ℕ → Type 0
 NoSheet lent s = (lent < 2 → Always s (refused 16 0)) × (2 ≤ lent → Always s (refused 17 0))
 
--- 255 is 127 wires and an odd bit
+-- the first 7 bits of 255 are 127 wires
 ask-filled : (lent : ℕ) → 2 ≤ lent → Always (replicate lent 255) (refused 17 0)
 unfolding bit field sheetWires sheetTests test
 ask-filled zero l = absurd (omega arith)

@@ -1,4 +1,5 @@
 pub mod Asking
 pub mod Cases
+pub mod Fits
 pub mod SheetLaws
 pub mod Sound
