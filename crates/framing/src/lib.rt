@@ -5,7 +5,6 @@ ghost use lib.ListN.{getD};
 ghost use Rattle.rules.specs.Numbers.{rates, payloadMost};
 ghost use Rattle.rules.specs.Replies.{pricingReply};
 ghost use Rattle.rules.specs.Price.{rowOf, lastBytes, price as priceOf, askPrice};
-
 use rules::Pricing;
 use rules::Row;
 use rules::Table;
@@ -23,7 +22,9 @@ const ROWS: [Row; 2] = [
         least: 10,
     },
 ];
+
 const FULL_FRAME: u64 = 1538;
+
 const SMALL_FRAME: u64 = 84;
 
 // By rate code.
@@ -33,11 +34,7 @@ const RATES: [u64; 3] = [1, 10, 100];
 pub fn rate(code: u64) -> u64
     ensures { λ r. ⌜ r ≡ getD rates code 0 ⌝ }
 {
-    if code < 3 {
-        RATES[code as usize]
-    } else {
-        0
-    }
+    if code < 3 { RATES[code as usize] } else { 0 }
 }
 
 // The frame that a remainder adds.

@@ -45,12 +45,12 @@ last-large row rest h l = rw (ne-eqb rest 0 (λ (e : rest ≡ 0). omega arith), 
 last-some : (row : Row) → Fair row → (rest : ℕ) → 1 ≤ rest → (smallFrame ≤ lastBytes row rest) × (rest + row .overhead ≤ lastBytes row rest) × ((lastBytes row rest ≡ smallFrame) ⊎ (lastBytes row rest ≡ rest + row .overhead))
 last-some row f rest h =
     elim (decLe (row .least) rest) [
-      yes l ↦
-        let e = last-large row rest h l in
-        (omega (arith, e, f .small), omega (arith, e), inr e)
+      | yes l ↦
+          let e = last-large row rest h l in
+          (omega (arith, e, f .small), omega (arith, e), inr e)
       | no n ↦
-        let e = last-small row rest h (omega arith) in
-        (omega (arith, e), omega (arith, e, f .small), inl e)
+          let e = last-small row rest h (omega arith) in
+          (omega (arith, e), omega (arith, e, f .small), inl e)
     ]
 
 pub last-most : (row : Row) → Fair row → (rest : ℕ) → rest < row .most → lastBytes row rest ≤ fullFrame
@@ -73,7 +73,7 @@ digits-grow : (m a b : ℕ) → 1 ≤ m → a ≤ b → (a / m < b / m) ⊎ ((a 
 digits-grow m a b h l =
     let le : a / m ≤ b / m = le-div-iff-mul-le h .1 (le-trans (div-mul-le-self a m) l) in
     elim (decLt (a / m) (b / m)) [
-      yes lt ↦ inl lt
+      | yes lt ↦ inl lt
       | no n ↦
           let e : a / m ≡ b / m = omega arith in
           inr (e, omega (arith, div-add-mod' a m, div-add-mod' b m, ap (λ (q : ℕ). q * m) e))
@@ -86,7 +86,7 @@ price-grows framing h a b l =
     let pa = price-is framing a in
     let pb = price-is framing b in
     elim (digits-grow (row .most) a b (f .some) l) [
-      inl lt ↦ omega (arith, pa, pb, lt, last-most row f (a % row .most) (mod-lt a (f .some)))
+      | inl lt ↦ omega (arith, pa, pb, lt, last-most row f (a % row .most) (mod-lt a (f .some)))
       | inr e ↦ omega (arith, pa, pb, e .0, last-grows row f (a % row .most) (b % row .most) (e .1))
     ]
 
