@@ -1,3 +1,4 @@
 pub mod Cases
 pub mod Sound
 pub mod Tests
+pub mod ReadingLaws
