@@ -2,3 +2,4 @@ pub mod Cases
 pub mod Sound
 pub mod Tests
 pub mod ReadingLaws
+pub mod JudgementLaws

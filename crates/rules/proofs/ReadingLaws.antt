@@ -1,14 +1,16 @@
--- What the tests of reading and of the judgement say, in plain facts.
+-- What the tests of reading say, in plain facts.
 use mathlib.Core.Path.{_≡_, refl, sym, ap, _∙_}
 use mathlib.Core.List.{List, [], _∷_}
 use Prim.Native.Nat.{ℕ, zero, suc, _+_, _*_, _/_, _%_, _≤_, _<_}
+use native.Mathlib.Nat.{div-add-mod'}
 use native.Mathlib.Omega.{arith}
 use lib.ListN.{length, getD}
 use lib.Dec.{ltb, eqb}
+use Rattle.bits.proofs.Laws.{field-lt}
 use Rattle.rules.specs.Words.{up}
 use Rattle.rules.specs.Numbers.{rates, hyperMost, wiresMost, channelsMost, hopsMost, headBits, wireBits, fixedBits, hopBits}
 use Rattle.rules.specs.Replies.{Reply, granted, refused, test, each}
-use Rattle.rules.specs.Table.{viewOf, hyperOf, wiresOf, channelsOf, wireAt, codeOf, channelAt, payloadAt, periodAt, hopsAt, routeAt, endOf, fillingOf}
+use Rattle.rules.specs.Table.{viewOf, hyperOf, wiresOf, channelsOf, wireAt, codeOf, rateOf, channelAt, framingAt, payloadAt, periodAt, hopsAt, routeAt, endOf, fillingOf}
 use Rattle.rules.specs.Reading.{headTests, wireTests, hopTests, divides, recordTests, channelTests, fillingTests, readingTests, reading}
 use Rattle.rules.proofs.Tests.{Gate, through, stops, Through, Stops, gate-granted, gate-through, gate-iff, gate-then, le-gate, lt-gate, eq-gate, both-gate, between-gate, all-gate}
 use Rattle.rules.proofs.Sound.{Climbs, Sound}
@@ -145,3 +147,58 @@ module _ (s : List ℕ) where
 
   pub passes-reading : Passes s → (rest : Reply) → readingTests s rest ≡ rest
   passes-reading = gate-through reading-gate
+
+-- ---- a table that passes is sound
+
+rates-range : (c : ℕ) → c < length rates → (1 ≤ getD rates c 0) × (getD rates c 0 ≤ 100)
+rates-range zero l = omega arith
+rates-range (suc zero) l = omega arith
+rates-range (suc (suc zero)) l = omega arith
+rates-range (suc (suc (suc c))) l = absurd (omega arith)
+
+pub length-route : (s : List ℕ) (at left : ℕ) → length (routeAt s at left) ≡ left
+unfolding routeAt
+length-route s at zero = refl
+length-route s at (suc left) = ap suc (length-route s (at + hopBits) left)
+
+module _ (s : List ℕ) where
+  rate-range : (w : ℕ) → codeOf s w < length rates → (1 ≤ rateOf s w) × (rateOf s w ≤ 100)
+  unfolding rateOf
+  rate-range w = rates-range (codeOf s w)
+
+  framing-lt : (at : ℕ) → framingAt s at < 2
+  unfolding framingAt
+  framing-lt at = field-lt s at 1
+
+  payload-lt : (at : ℕ) → payloadAt s at < 65536
+  unfolding payloadAt
+  payload-lt at = field-lt s _ 16
+
+  pub passes-sound : FieldsPass s → Sound (viewOf s)
+  passes-sound r =
+      record {
+        hyper-least = r .head .hyper-least;
+        hyper-most = r .head .hyper-most;
+        wires-least = r .head .wires-least;
+        wires-most = r .head .wires-most;
+        channels-least = r .head .channels-least;
+        channels-most = r .head .channels-most;
+        rate-least = λ w l. rate-range w (r .wire w l .code-lt) .0;
+        rate-most = λ w l. rate-range w (r .wire w l .code-lt) .1;
+        framing-most = λ k l. omega (arith, framing-lt (channelAt s k));
+        payload-least = λ k l. r .channel k l .payload-least;
+        payload-most = λ k l. omega (arith, payload-lt (channelAt s k));
+        period-least = λ k l. r .channel k l .period-least;
+        divides = λ k l. omega (arith, div-add-mod' (hyperOf s) (periodAt s (channelAt s k)), r .channel k l .divided);
+        hops-least = λ k l. rw length-route (r .channel k l .hops-least);
+        hops-most = λ k l. rw length-route (r .channel k l .hops-most);
+        climbs = λ k l. r .channel k l .climbs;
+      }
+
+  pub reading-sound : (rest : Reply) (v : List ℕ) → readingTests s rest ≡ granted v → Sound (viewOf s) × (rest ≡ granted v)
+  reading-sound rest v e =
+      let g = gate-granted (reading-gate s) rest v e in
+      (passes-sound (g .0 .fields), g .1)
+
+  pub granted-sound : reading s ≡ granted [] → Sound (viewOf s)
+  granted-sound e = passes-sound (reading-passes s e .fields)
