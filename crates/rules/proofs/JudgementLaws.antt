@@ -1,18 +1,17 @@
 -- What the judgement says, in plain facts.
-use mathlib.Core.Path.{_≡_, refl}
+use mathlib.Core.Path.{_≡_}
 use mathlib.Core.Logic.{_⊎_, inl, inr}
 use mathlib.Core.List.{List, [], _∷_}
 use Prim.Native.Nat.{ℕ, _*_, _≤_, _<_}
-use native.Mathlib.Omega.{arith}
 use lib.Dec.{leb}
-use Rattle.rules.specs.Replies.{Reply, granted, refused, test, each}
+use Rattle.rules.specs.Replies.{Reply, granted, refused, test}
 use Rattle.rules.specs.Table.{View, viewOf}
-use Rattle.rules.specs.Reading.{readingTests}
+use Rattle.rules.specs.Reading.{readingTests, reading}
 use Rattle.rules.specs.Bounds.{load, backlog, endToEnd}
 use Rattle.rules.specs.Judgement.{loadTest, roomTest, deadlineTest, boundsTests, lengthOf, judge}
 use Rattle.rules.proofs.Tests.{Gate, through, stops, gate-granted, gate-through, gate-iff, gate-then, le-gate, all-gate}
 use Rattle.rules.proofs.Sound.{Sound}
-use Rattle.rules.proofs.ReadingLaws.{Passes, passes-sound, reading-gate}
+use Rattle.rules.proofs.ReadingLaws.{Passes, passes-sound, reading-gate, reading-refused}
 
 -- 12 to 14
 pub record Bounded (t : View) : Type 0 where
@@ -73,5 +72,11 @@ module _ (s : List ℕ) (lent : ℕ) where
   pub judge-cases : (judge s lent ≡ granted (lengthOf (viewOf s) ∷ [])) ⊎ ((n : ℕ) × (p : ℕ) × (judge s lent ≡ refused n p))
   unfolding judge
   judge-cases = elim judge-gate [
-      through h e ↦ inl (e _)
-    | stops h n p e ↦ inr (n, p, e _) ]
+    | through h e ↦ inl (e _)
+    | stops h n p e ↦ inr (n, p, e _)
+  ]
+
+  -- what is refused in reading is refused in judging
+  pub judge-refused : (n p : ℕ) → reading s ≡ refused n p → judge s lent ≡ refused n p
+  unfolding judge
+  judge-refused n p e = reading-refused s n p e _

@@ -3,3 +3,4 @@ pub mod Sound
 pub mod Tests
 pub mod ReadingLaws
 pub mod JudgementLaws
+pub mod Incident

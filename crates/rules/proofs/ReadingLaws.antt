@@ -1,7 +1,7 @@
 -- What the tests of reading say, in plain facts.
-use mathlib.Core.Path.{_≡_, refl, sym, ap, _∙_}
+use mathlib.Core.Path.{_≡_, refl, ap}
 use mathlib.Core.List.{List, [], _∷_}
-use Prim.Native.Nat.{ℕ, zero, suc, _+_, _*_, _/_, _%_, _≤_, _<_}
+use Prim.Native.Nat.{ℕ, zero, suc, _+_, _*_, _%_, _≤_, _<_}
 use native.Mathlib.Nat.{div-add-mod'}
 use native.Mathlib.Omega.{arith}
 use lib.ListN.{length, getD}
@@ -12,7 +12,7 @@ use Rattle.rules.specs.Numbers.{rates, hyperMost, wiresMost, channelsMos
 use Rattle.rules.specs.Replies.{Reply, granted, refused, test, each}
 use Rattle.rules.specs.Table.{viewOf, hyperOf, wiresOf, channelsOf, wireAt, codeOf, rateOf, channelAt, framingAt, payloadAt, periodAt, hopsAt, routeAt, endOf, fillingOf}
 use Rattle.rules.specs.Reading.{headTests, wireTests, hopTests, divides, recordTests, channelTests, fillingTests, readingTests, reading}
-use Rattle.rules.proofs.Tests.{Gate, through, stops, Through, Stops, gate-granted, gate-through, gate-iff, gate-then, le-gate, lt-gate, eq-gate, both-gate, between-gate, all-gate}
+use Rattle.rules.proofs.Tests.{Gate, through, gate-granted, gate-refused, gate-through, gate-iff, gate-then, le-gate, lt-gate, eq-gate, both-gate, between-gate, all-gate}
 use Rattle.rules.proofs.Sound.{Climbs, Sound}
 
 -- 1 to 4
@@ -148,6 +148,14 @@ module _ (s : List ℕ) where
   pub passes-reading : Passes s → (rest : Reply) → readingTests s rest ≡ rest
   passes-reading = gate-through reading-gate
 
+  pub passes-granted : Passes s → reading s ≡ granted []
+  unfolding reading
+  passes-granted p = passes-reading p (granted [])
+
+  pub reading-refused : (n p : ℕ) → reading s ≡ refused n p → (rest : Reply) → readingTests s rest ≡ refused n p
+  unfolding reading
+  reading-refused n p e = gate-refused reading-gate [] n p e
+
 -- ---- a table that passes is sound
 
 rates-range : (c : ℕ) → c < length rates → (1 ≤ getD rates c 0) × (getD rates c 0 ≤ 100)
@@ -202,3 +210,23 @@ module _ (s : List ℕ) where
 
   pub granted-sound : reading s ≡ granted [] → Sound (viewOf s)
   granted-sound e = passes-sound (reading-passes s e .fields)
+
+-- ---- where the fields of a table that passes end
+
+module _ (s : List ℕ) (r : FieldsPass s) where
+  pub wires-inside : (w : ℕ) → w ≤ wiresOf s → wireAt w ≤ 8 * length s
+  unfolding wireAt
+  wires-inside zero l = r .head .inside
+  wires-inside (suc w) l = omega (arith, r .wire w l .inside)
+
+  pub channels-inside : (c : ℕ) → c ≤ channelsOf s → channelAt s c ≤ 8 * length s
+  unfolding channelAt
+  channels-inside zero l = wires-inside (wiresOf s) (omega arith)
+  channels-inside (suc c) l = r .channel c l .route-inside
+
+  pub end-inside : endOf s ≤ 8 * length s
+  unfolding endOf
+  end-inside = channels-inside (channelsOf s) (omega arith)
+
+pub length-told : (s : List ℕ) → Passes s → length s ≡ up (endOf s) 8
+length-told s p = omega (arith, end-inside s (p .fields), p .filling .no-more)

@@ -1,5 +1,5 @@
 -- Laws of tests. A chain of tests, as a function of what follows it, either passes that on or gives one refusal.
-use mathlib.Core.Path.{_≡_, refl, sym, ap, _∙_}
+use mathlib.Core.Path.{_≡_, refl, sym, _∙_}
 use mathlib.Core.Bool.{Bool, true, false, _&&_}
 use mathlib.Core.List.{List}
 use Prim.Native.Nat.{ℕ, zero, suc, _+_, _≤_, _<_}
@@ -21,11 +21,14 @@ pub data Gate (P : Type 0) (f : Reply → Reply) : Type 0 where
   through : P → Through f → Gate P f
   stops : (P → ⊥) → (n p : ℕ) → Stops f n p → Gate P f
 
--- what is granted
 module _ {P : Type 0} {f : Reply → Reply} where
   pub gate-granted : Gate P f → (rest : Reply) (v : List ℕ) → f rest ≡ granted v → P × (rest ≡ granted v)
   gate-granted (through h e) rest v q = (h, sym (e rest) ∙ q)
   gate-granted (stops h n p e) rest v q = let z : _≡_ {A = ℕ} 0 1 = cc (e rest) in absurd (omega arith)
+
+  pub gate-refused : Gate P f → (v : List ℕ) (n p : ℕ) → f (granted v) ≡ refused n p → Stops f n p
+  gate-refused (through h e) v n p q rest = let z : _≡_ {A = ℕ} 0 1 = cc (e (granted v)) in absurd (omega arith)
+  gate-refused (stops h n' p' e) v n p q rest = e rest ∙ sym (e (granted v)) ∙ q
 
   pub gate-through : Gate P f → P → Through f
   gate-through (through h e) x = e
@@ -49,20 +52,23 @@ module _ (n p : ℕ) where
   pub le-gate : (a b : ℕ) → Gate (a ≤ b) (test (leb a b) n p)
   unfolding test
   le-gate a b = elim (decLe a b) [
-      yes l ↦ through l (λ rest. rw (le-leb a b l))
-    | no o ↦ stops o n p (λ rest. rw (lt-leb a b (omega arith))) ]
+    | yes l ↦ through l (λ rest. rw (le-leb a b l))
+    | no o ↦ stops o n p (λ rest. rw (lt-leb a b (omega arith)))
+  ]
 
   pub lt-gate : (a b : ℕ) → Gate (a < b) (test (ltb a b) n p)
   unfolding test
   lt-gate a b = elim (decLt a b) [
-      yes l ↦ through l (λ rest. rw (lt-ltb a b l))
-    | no o ↦ stops o n p (λ rest. rw (le-ltb a b (omega arith))) ]
+    | yes l ↦ through l (λ rest. rw (lt-ltb a b l))
+    | no o ↦ stops o n p (λ rest. rw (le-ltb a b (omega arith)))
+  ]
 
   pub eq-gate : (a b : ℕ) → Gate (a ≡ b) (test (eqb a b) n p)
   unfolding test
   eq-gate a b = elim (ℕ-discrete a b) [
-      yes l ↦ through l (λ rest. rw (eq-eqb a b l))
-    | no o ↦ stops o n p (λ rest. rw (ne-eqb a b o)) ]
+    | yes l ↦ through l (λ rest. rw (eq-eqb a b l))
+    | no o ↦ stops o n p (λ rest. rw (ne-eqb a b o))
+  ]
 
   -- one test of two things is two tests with the same refusal
   pub both-gate : {P Q : Type 0} (a b : Bool) → Gate P (test a n p) → Gate Q (test b n p) → Gate (P × Q) (test (a && b) n p)
@@ -72,6 +78,12 @@ module _ (n p : ℕ) where
 
   pub between-gate : (low x high : ℕ) → Gate ((low ≤ x) × (x ≤ high)) (test (between low x high) n p)
   between-gate low x high = both-gate (leb low x) (leb x high) (le-gate low x) (le-gate x high)
+
+pub each-through : (f : ℕ → Reply → Reply) (a left : ℕ) → ((i : ℕ) → a ≤ i → i < a + left → Through (f i)) → Through (each f a left)
+unfolding each
+each-through f a zero h rest = refl
+each-through f a (suc left) h rest =
+    h a (omega arith) (omega arith) _ ∙ each-through f (suc a) left (λ i l m. h i (omega arith) (omega arith)) rest
 
 -- the items from a on, as many as are left
 pub each-gate : (P : ℕ → Type 0) (f : ℕ → Reply → Reply) → ((i : ℕ) → Gate (P i) (f i))
