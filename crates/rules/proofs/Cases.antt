@@ -9,8 +9,9 @@ use Rattle.rules.specs.Reading.{headTests, wireTests, hopTests, recordTe
 use Rattle.rules.specs.Bounds.{loadOf, load, along, jitter, shareOf, backlogAfter, delayAfter, delaysBelow, backlog, delay, endToEnd}
 use Rattle.rules.specs.Sheet.{figuresAt, endAt, sheetLength, withHead, withWires, withChannels, sheetOf}
 use Rattle.rules.specs.Judgement.{loadTest, roomTest, deadlineTest, boundsTests, judge, sheet, leaves, buffer}
-use Rattle.rules.specs.Cases.{MarkedCases, figuresOf, evaluate}
+use Rattle.rules.specs.Cases.{MarkedCases, all, _and_, figuresOf, evaluate}
 
 pub marked-cases : MarkedCases
 unfolding bit field putBit putField sum total has test each lastBytes price askPrice hyperOf wiresOf channelsOf wireAt codeOf rateOf propOf roomOf framingAt payloadAt periodAt deadlineAt hopsAt routeAt channelAt endOf fillingOf headTests wireTests hopTests recordTests channelTests fillingTests readingTests loadOf load along jitter shareOf backlogAfter delayAfter delaysBelow backlog delay endToEnd figuresAt endAt sheetLength withHead withWires withChannels sheetOf loadTest roomTest deadlineTest boundsTests judge sheet leaves buffer listed figuresOf evaluate
-marked-cases = refl
+marked-cases =
+    (refl, refl, refl, refl, refl, refl) and (refl, refl, refl, refl, refl, refl) and (refl, refl, refl, refl, refl, refl) and (refl, refl, refl, refl, refl, refl) and (refl, refl, refl, refl, refl, refl) and (refl, refl, refl, refl, refl, refl) and (refl, refl, refl, refl, refl, refl) and (refl, refl, refl, refl, refl, refl) and (refl, refl, refl, refl, refl, refl) and (refl, refl, refl, refl, refl, refl) and (refl, refl, refl, refl, refl, refl) and (refl, refl, refl, refl, refl, refl) and (refl, refl, refl, refl, refl, refl) and (refl, refl, refl, refl, refl, refl) and (refl, refl, refl, refl, refl, refl) and (refl, refl, refl, refl, refl, refl) and all

@@ -1,6 +1,6 @@
 -- The marked cases: one table of questions with the figures that document 01 gives, and one evaluator of the definitions.
 use mathlib.Core.Path.{_≡_}
-use mathlib.Core.List.{List, [], _∷_, map}
+use mathlib.Core.List.{List, [], _∷_}
 use Prim.Native.Nat.{ℕ}
 use Rattle.rules.specs.Words.{listed}
 use Rattle.rules.specs.Replies.{Reply, granted, refused}
@@ -153,6 +153,21 @@ cases =
     })
     ∷ []
 
+-- figure by figure
+abbrev pub Same : Figures → Figures → Type 0
+Same a b =
+    (a .reply ≡ b .reply)
+    × (a .loads ≡ b .loads)
+    × (a .backlogs ≡ b .backlogs)
+    × (a .delays ≡ b .delays)
+    × (a .ends ≡ b .ends)
+    × (a .lent ≡ b .lent)
+
 -- What the definitions say of each question is what stands beside it.
+infixr 5 _and_
+pub data Hold : List Case → Type 0 where
+  all : Hold []
+  _and_ : {c : Case} {cs : List Case} → Same (evaluate (c .question)) (c .figures) → Hold cs → Hold (c ∷ cs)
+
 abbrev pub MarkedCases : Type 0
-MarkedCases = map (λ (c : Case). evaluate (c .question)) cases ≡ map (λ (c : Case). c .figures) cases
+MarkedCases = Hold cases
