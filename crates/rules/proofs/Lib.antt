@@ -1,2 +1,4 @@
 pub mod Cases
+pub mod Orders
 pub mod Sound
+pub mod Sums
