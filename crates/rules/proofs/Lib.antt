@@ -1,4 +1,6 @@
 pub mod Cases
 pub mod Orders
+pub mod Routes
+pub mod Server
 pub mod Sound
 pub mod Sums
