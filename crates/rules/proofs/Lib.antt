@@ -1,4 +1,5 @@
 pub mod Cases
+pub mod Flow
 pub mod Orders
 pub mod Routes
 pub mod Server
