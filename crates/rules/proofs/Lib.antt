@@ -1,5 +1,6 @@
 pub mod Cases
 pub mod Flow
+pub mod Gaps
 pub mod Orders
 pub mod Routes
 pub mod Server
