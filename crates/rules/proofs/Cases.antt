@@ -1,7 +1,7 @@
 -- The marked cases hold, by computation.
 use mathlib.Core.Path.{refl}
 use Rattle.bits.specs.Field.{bit, field, putBit, putField}
-use Rattle.rules.specs.Words.{sum, total, has}
+use Rattle.rules.specs.Words.{sum, total, listed, has}
 use Rattle.rules.specs.Replies.{test, each}
 use Rattle.rules.specs.Price.{lastBytes, price, askPrice}
 use Rattle.rules.specs.Table.{hyperOf, wiresOf, channelsOf, wireAt, codeOf, rateOf, propOf, roomOf, framingAt, payloadAt, periodAt, deadlineAt, hopsAt, routeAt, channelAt, endOf, fillingOf}
@@ -9,7 +9,6 @@ use Rattle.rules.specs.Reading.{headTests, wireTests, hopTests, recordTe
 use Rattle.rules.specs.Bounds.{loadOf, load, along, jitter, shareOf, backlogAfter, delayAfter, delaysBelow, backlog, delay, endToEnd}
 use Rattle.rules.specs.Sheet.{figuresAt, endAt, sheetLength, withHead, withWires, withChannels, sheetOf}
 use Rattle.rules.specs.Judgement.{loadTest, roomTest, deadlineTest, boundsTests, judge, sheet, leaves, buffer}
-use Rattle.rules.specs.Machine.{listed}
 use Rattle.rules.specs.Cases.{MarkedCases, figuresOf, evaluate}
 
 pub marked-cases : MarkedCases

@@ -1,8 +1,14 @@
+pub mod Asking
 pub mod Cases
+pub mod Fits
 pub mod Flow
 pub mod Gaps
+pub mod OneReply
 pub mod Orders
+pub mod Prices
+pub mod Replies
 pub mod Routes
 pub mod Server
+pub mod SheetLaws
 pub mod Sound
 pub mod Sums

@@ -2,12 +2,12 @@
 use mathlib.Core.Path.{_≡_}
 use mathlib.Core.List.{List, [], _∷_, map}
 use Prim.Native.Nat.{ℕ}
+use Rattle.rules.specs.Words.{listed}
 use Rattle.rules.specs.Replies.{Reply, granted, refused}
 use Rattle.rules.specs.Price.{askPrice}
 use Rattle.rules.specs.Table.{View, viewOf}
 use Rattle.rules.specs.Bounds.{load, backlog, delay, endToEnd}
 use Rattle.rules.specs.Judgement.{judge, buffer}
-use Rattle.rules.specs.Machine.{listed}
 
 -- A price for a framing and a payload, or a table's bytes judged with so many bytes lent.
 pub data Question : Type 0 where

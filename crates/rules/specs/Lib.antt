@@ -6,6 +6,7 @@ pub mod Price
 pub mod Table
 pub mod Reading
 pub mod Bounds
+pub mod Decoded
 pub mod Sheet
 pub mod Judgement
 pub mod Machine

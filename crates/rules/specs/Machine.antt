@@ -5,7 +5,7 @@ use mathlib.Core.List.{List, [], _∷_, _++_, map}
 use Prim.Native.Nat.{ℕ, zero, suc, _+_, _-_, _≤_, _<_}
 use lib.ListN.{getD, replicate}
 use lib.Dec.{leb, eqb}
-use Rattle.rules.specs.Words.{total}
+use Rattle.rules.specs.Words.{total, listed}
 use Rattle.rules.specs.Price.{frames}
 use Rattle.rules.specs.Table.{View}
 
@@ -150,11 +150,6 @@ Order = ℕ → ℕ → List Frame → List Frame
 pub record State : Type 0 where
   pub queues : List (List Waiting)
   pub past : List (List (List Frame))
-
--- f 0, f 1, .. f (n - 1)
-unfoldable pub listed : {A : Type 0} → (ℕ → A) → ℕ → List A
-listed f zero = []
-listed f (suc n) = listed f n ++ (f n ∷ [])
 
 abbrev pub queueIn : State → ℕ → List Waiting
 queueIn state w = getD (state .queues) w []

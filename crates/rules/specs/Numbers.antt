@@ -1,7 +1,7 @@
 -- The numbers of document 01: "the slot length, the count limits and the field widths are constants of the table itself,
 -- stated once". The associated constants of the type Table in src/ are held to them by `constants`.
 use mathlib.Core.List.{List, [], _∷_}
-use Prim.Native.Nat.{ℕ, _+_}
+use Prim.Native.Nat.{ℕ, _+_, _*_}
 
 -- One slot is 80 ns.
 abbrev pub slotNs : ℕ
@@ -69,6 +69,9 @@ hopsBits = 4
 abbrev pub hopsMost : ℕ
 hopsMost = 8
 
+abbrev pub routesMost : ℕ
+routesMost = channelsMost * hopsMost
+
 abbrev pub fixedBits : ℕ
 fixedBits = framingBits + payloadBits + periodBits + deadlineBits + hopsBits
 
@@ -102,4 +105,4 @@ sheetLongest = 834
 -- All of them, in the order above.
 abbrev pub numbers : List ℕ
 numbers =
-    slotNs ∷ hyperBits ∷ hyperMost ∷ wiresBits ∷ wiresMost ∷ channelsBits ∷ channelsMost ∷ headBits ∷ rateBits ∷ propBits ∷ roomBits ∷ wireBits ∷ framingBits ∷ payloadBits ∷ payloadMost ∷ periodBits ∷ deadlineBits ∷ hopsBits ∷ hopsMost ∷ fixedBits ∷ hopBits ∷ tableLongest ∷ sheetHeadBits ∷ backlogBits ∷ delayBits ∷ figuresBits ∷ endBits ∷ sheetLongest ∷ []
+    slotNs ∷ hyperBits ∷ hyperMost ∷ wiresBits ∷ wiresMost ∷ channelsBits ∷ channelsMost ∷ headBits ∷ rateBits ∷ propBits ∷ roomBits ∷ wireBits ∷ framingBits ∷ payloadBits ∷ payloadMost ∷ periodBits ∷ deadlineBits ∷ hopsBits ∷ hopsMost ∷ routesMost ∷ fixedBits ∷ hopBits ∷ tableLongest ∷ sheetHeadBits ∷ backlogBits ∷ delayBits ∷ figuresBits ∷ endBits ∷ sheetLongest ∷ []

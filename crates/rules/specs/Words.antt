@@ -1,6 +1,6 @@
 -- Words that several sections use.
 use mathlib.Core.Bool.{Bool, true, false, cond, _&&_, _||_}
-use mathlib.Core.List.{List, [], _∷_}
+use mathlib.Core.List.{List, [], _∷_, _++_}
 use Prim.Native.Nat.{ℕ, zero, suc, _+_, _-_, _/_}
 use lib.Dec.{leb, eqb}
 
@@ -13,6 +13,11 @@ sum f (suc n) = sum f n + f n
 unfoldable pub total : {A : Type 0} → (A → ℕ) → List A → ℕ
 total f [] = 0
 total f (x ∷ xs) = f x + total f xs
+
+-- f 0, f 1, .. f (n - 1)
+unfoldable pub listed : {A : Type 0} → (ℕ → A) → ℕ → List A
+listed f zero = []
+listed f (suc n) = listed f n ++ (f n ∷ [])
 
 -- a / b, rounded up
 abbrev pub up : ℕ → ℕ → ℕ

@@ -39,12 +39,26 @@ pub enum AskedChannel {
     Refused(u64, u64),
 }
 
-// A table as read: what stands past its wires, channels and hops is 0.
+// A table as read: of each wire its rate, propagation and room, of each channel its price, H / period, deadline, hops and
+// route, with the wire of hop i of channel c at 8 * c + i. What stands past its wires, channels and hops is 0.
 pub struct Table {
     pub hyper: u64,
     pub wires: usize,
     pub channels: usize,
     pub rate: [u64; Table::WIRES_MOST],
+    pub prop: [u64; Table::WIRES_MOST],
+    pub room: [u64; Table::WIRES_MOST],
+    pub price: [u64; Table::CHANNELS_MOST],
+    pub times: [u64; Table::CHANNELS_MOST],
+    pub deadline: [u64; Table::CHANNELS_MOST],
+    pub hops: [u8; Table::CHANNELS_MOST],
+    pub route: [u8; Table::ROUTES_MOST],
+}
+
+// What reading a table leaves: the answer, and the table, which is all 0 on a refusal.
+pub struct TableRead {
+    pub answer: Reading,
+    pub table: Table,
 }
 
 impl Table {
@@ -86,6 +100,8 @@ impl Table {
 
     pub const HOPS_MOST: usize = 8;
 
+    pub const ROUTES_MOST: usize = Table::CHANNELS_MOST * Table::HOPS_MOST;
+
     pub const FIXED_BITS: usize = Table::FRAMING_BITS
         + Table::PAYLOAD_BITS
         + Table::PERIOD_BITS
@@ -110,7 +126,7 @@ impl Table {
 }
 
 // The constants above, each tied to its number in the definitions.
-pub fn constants() -> [usize; 28]
+pub fn constants() -> [usize; 29]
     ensures { λ r. ⌜ r ≡ numbers ⌝ }
 {
     [
@@ -133,6 +149,7 @@ pub fn constants() -> [usize; 28]
         Table::DEADLINE_BITS,
         Table::HOPS_BITS,
         Table::HOPS_MOST,
+        Table::ROUTES_MOST,
         Table::FIXED_BITS,
         Table::HOP_BITS,
         Table::LONGEST,

@@ -1,0 +1,46 @@
+-- `bits::read` meets its contract: each return by the tests that led there.
+-- Assumes nothing.
+use mathlib.Core.Path.{_≡_, sym, ap, _∙_}
+use mathlib.Core.Bool.{false}
+use Prim.Native.Nat.{_+_, _*_, _≤_}
+use native.Mathlib.Omega.{arith}
+use lib.ListN.{length}
+use borrow.Author.Needs.{needs}
+use borrow.Author.Tests.{le-leb, lt-leb, not-true, not-false}
+use Rattle.bits.specs.Field.{widest, within}
+use Rattle.bits.specs.declared.Taken.the-variants.{Number}
+use Rattle.bits.proofs.Laws.{within-le, takenOf-number}
+use Rattle.bits.proofs.read.Statement.{statement}
+use Rattle.bits.proofs.read.Tie as tie
+
+returns : tie.Need-returns
+returns c = rw (lt-leb (c .before .before .args .width) widest (omega arith))
+
+holds-requires : tie.Need-holds-requires
+holds-requires c κs = search needs
+
+returns-2 : tie.Need-returns-2
+returns-2 c =
+    let a = c .before .before .before .before .args in
+    let past : within (a .s .now) (a .at) (a .width) ≡ false = sym (c .before .holds .ensures) ∙ not-true (c .before .holds .result) (c .if2 .taken) in
+    rw (le-leb (a .width) widest (omega arith), past)
+
+module _ (c : tie.Else2) where
+  abbrev st : tie.Start
+  st = c .before .before .before .before
+
+  inside : st .args .at + st .args .width ≤ 8 * length (st .args .s .now)
+  inside =
+      within-le (st .args .s .now) (st .args .at) (st .args .width)
+      (sym (c .before .holds .ensures) ∙ not-false (c .before .holds .result) (c .if2 .left))
+
+gather-requires : tie.Need-gather-requires
+gather-requires c κs = omega (arith, inside c)
+
+returns-3 : tie.Need-returns-3
+returns-3 c =
+    let a = st (c .before) .args in
+    ap Number (c .gather .ensures) ∙ sym (takenOf-number (a .s .now) (a .at) (a .width) (omega arith) (inside (c .before)))
+
+pub read-spec : {M : Type 1} → statement M
+read-spec = tie.close (tie.spec returns holds-requires returns-2 gather-requires returns-3)
