@@ -14,18 +14,10 @@ use Rattle.rules.specs.Table.{View}
 use Rattle.rules.specs.Bounds.{along}
 use Rattle.rules.specs.Machine.{Frame, Releases, message, ofChannel, bornIn, Source, nowhere, release, wire, source, Gone, reaching, dueFrom, dueBelow, due, AnyOrder}
 use Rattle.rules.proofs.Sound.{Climbs}
-use Rattle.rules.proofs.Sums.{sum-same, sum-swap, sum-alone, sum-none, sum-grows, total-append, total-same, total-none, total-map}
+use Rattle.rules.proofs.Sums.{ascend, sum-same, sum-swap, sum-alone, sum-none, sum-grows, total-append, total-same, total-none, total-map}
 use Rattle.rules.proofs.Orders.{any-order-total}
 use Rattle.rules.proofs.Routes.{Follows, Begins, follows, climbs-below}
 use Rattle.rules.proofs.Server.{before, Passes}
-
--- ascending: what holds of a number where it holds of all below, holds
-pub ascend : (P : ℕ → Type 0) → ((w : ℕ) → ((v : ℕ) → v < w → P v) → P w) → (w : ℕ) → P w
-ascend P step w = step w (below w)
-  where
-    below : (n v : ℕ) → v < n → P v
-    below zero v l = absurd (omega arith)
-    below (suc n) v l = step v (λ u less. below n u (omega arith))
 
 -- g, of the frames of channel k
 abbrev pub own : ℕ → (Frame → ℕ) → Frame → ℕ

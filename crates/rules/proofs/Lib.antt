@@ -1,8 +1,10 @@
 pub mod Asking
 pub mod Cases
+pub mod Delays
 pub mod Fits
 pub mod Flow
 pub mod Gaps
+pub mod Network
 pub mod OneReply
 pub mod Orders
 pub mod Prices

@@ -153,20 +153,32 @@ follows n least w (x ∷ xs) c h =
     ]
 
 -- The last wire ends the route.
-pub last-there : (x : ℕ) (xs : List ℕ) → has (lastWire (x ∷ xs)) (x ∷ xs) ≡ true
+pub last-there : (xs : List ℕ) → 1 ≤ length xs → has (lastWire xs) xs ≡ true
 unfolding has lastWire
-last-there x [] = rw (eq-eqb x x refl) refl
-last-there x (y ∷ ys) = or-right (eqb x (lastWire (y ∷ ys))) (last-there y ys)
+last-there [] l = absurd (omega arith)
+last-there (x ∷ []) l = rw (eq-eqb x x refl) refl
+last-there (x ∷ y ∷ ys) l = or-right (eqb x (lastWire (y ∷ ys))) (last-there (y ∷ ys) (omega arith))
 
 pub last-total :
-    (f : ℕ → ℕ) (n least x : ℕ) (xs : List ℕ) → Climbs n least (x ∷ xs) →
-    total f (x ∷ xs) ≡ along f (x ∷ xs) (lastWire (x ∷ xs)) + f (lastWire (x ∷ xs))
+    (f : ℕ → ℕ) (n least : ℕ) (xs : List ℕ) → 1 ≤ length xs → Climbs n least xs →
+    total f xs ≡ along f xs (lastWire xs) + f (lastWire xs)
 unfolding total lastWire
-last-total f n least x [] c = omega (arith, along-at f x x [] refl)
-last-total f n least x (y ∷ ys) c =
+last-total f n least [] l c = absurd (omega arith)
+last-total f n least (x ∷ []) l c = omega (arith, along-at f x x [] refl)
+last-total f n least (x ∷ y ∷ ys) l c =
+    let z = lastWire (y ∷ ys) in
     omega (
       arith,
-      last-total f n (suc x) y ys (c .2),
-      along-past f x (lastWire (y ∷ ys)) (y ∷ ys)
-      (omega (arith, climbs-least n (suc x) (lastWire (y ∷ ys)) (y ∷ ys) (c .2) (last-there y ys)))
+      last-total f n (suc x) (y ∷ ys) (omega arith) (c .2),
+      along-past f x z (y ∷ ys) (omega (arith, climbs-least n (suc x) z (y ∷ ys) (c .2) (last-there (y ∷ ys) (omega arith))))
+    )
+
+pub route-same : (f g : ℕ → ℕ) (xs : List ℕ) → ((v : ℕ) → has v xs ≡ true → f v ≡ g v) → total f xs ≡ total g xs
+unfolding total has
+route-same f g [] e = refl
+route-same f g (x ∷ xs) e =
+    omega (
+      arith,
+      e x (rw (eq-eqb x x refl) refl),
+      route-same f g xs (λ v there. e v (or-right (eqb x v) there))
     )

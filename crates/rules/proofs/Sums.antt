@@ -1,4 +1,4 @@
--- Laws of sums over numbers below a bound, and of totals over lists.
+-- Ascending induction. Laws of sums over numbers below a bound, and of totals over lists.
 use mathlib.Core.Path.{_≡_, refl, ap, sym, _∙_}
 use mathlib.Core.Bool.{Bool, true, false, cond}
 use mathlib.Core.List.{List, [], _∷_, _++_, map}
@@ -7,6 +7,14 @@ use native.Mathlib.Nat.{mul-le-mul-left}
 use native.Mathlib.Decide.{decLe, ℕ-discrete}
 use native.Mathlib.Omega.{arith}
 use Rattle.rules.specs.Words.{sum, total}
+
+-- ascending: what holds of a number where it holds of all below, holds
+pub ascend : (P : ℕ → Type 0) → ((w : ℕ) → ((v : ℕ) → v < w → P v) → P w) → (w : ℕ) → P w
+ascend P step w = step w (below w)
+  where
+    below : (n v : ℕ) → v < n → P v
+    below zero v l = absurd (omega arith)
+    below (suc n) v l = step v (λ u less. below n u (omega arith))
 
 pub sum-le : (f g : ℕ → ℕ) (n : ℕ) → ((i : ℕ) → i < n → f i ≤ g i) → sum f n ≤ sum g n
 unfolding sum
