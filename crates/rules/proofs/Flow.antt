@@ -54,7 +54,7 @@ only-zero true = refl
 only-zero false = refl
 
 -- a weight over a message is one over the sizes of its frames
-total-message :
+pub total-message :
     (t : View) (released : Releases) (k r : ℕ) (g : Frame → ℕ) →
     total g (message t released k r) ≡ total (λ (size : ℕ). g (record { channel = k; born = r; size = size })) (frames (t .framing k) (released k r))
 unfolding message
@@ -101,6 +101,12 @@ due-other src t released gone slot j k g d =
 -- what channel k brings to wire w, slot by slot
 abbrev pub into : View → Releases → Gone → ℕ → ℕ → ℕ → List Frame
 into t released gone w k slot = dueFrom (source (t .route k) w) t released gone slot k
+
+pub none-into :
+    (t : View) (released : Releases) (gone : Gone) (w k : ℕ) → source (t .route k) w ≡ nowhere → (g : Frame → ℕ) (n : ℕ) →
+    before (into t released gone w k) g n ≡ 0
+unfolding dueFrom total
+none-into t released gone w k e g n = ap (λ (src : Source). before (λ slot. dueFrom src t released gone slot k) g n) e ∙ sum-none n
 
 due-sum :
     (t : View) (released : Releases) (gone : Gone) (w slot n : ℕ) (g : Frame → ℕ) →

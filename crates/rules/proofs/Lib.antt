@@ -1,6 +1,7 @@
 pub mod Asking
 pub mod Cases
 pub mod Delays
+pub mod Figures
 pub mod Fits
 pub mod Flow
 pub mod Gaps

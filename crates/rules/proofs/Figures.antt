@@ -1,0 +1,179 @@
+-- Demand 3 to the figures: no wire holds more than its backlog, and a message is whole by its channel's end-to-end delay.
+use mathlib.Core.Path.{_≡_, refl, ap, sym, _∙_}
+use mathlib.Core.Bool.{Bool, true, false, cond}
+use mathlib.Core.Logic.{_⊎_, inl, inr}
+use mathlib.Core.List.{List, [], _∷_, _++_, map}
+use Prim.Native.Nat.{ℕ, zero, suc, _+_, _-_, _*_, _/_, _≤_, _<_}
+use native.Mathlib.Nat.{mul-le-mul-left, lt-div-mul-add, eq-zero-or-pos}
+use native.Mathlib.Decide.{decLe}
+use native.Mathlib.Omega.{arith}
+use Rattle.rules.specs.Words.{sum, total, only, has}
+use Rattle.rules.specs.Price.{price, lastBytes, frames}
+use Rattle.rules.specs.Table.{View}
+use Rattle.rules.specs.Bounds.{cost, times, on, loadOf, load, along, jitter, shareOf, backlogAfter, known, backlog, delay, endToEnd}
+use Rattle.rules.specs.Machine.{Frame, Releases, Keeps, Run, AnyOrder, message, source, nowhere, dueFrom, held, lastWire, goneBelow, delivered, ofChannel, bornIn, bytes, joined}
+use Rattle.rules.proofs.Sound.{Sound, Climbs}
+use Rattle.rules.proofs.Sums.{sum-same, sum-le, sum-add, sum-scale, sum-none, sum-alone, sum-grows, total-append}
+use Rattle.rules.proofs.Orders.{same, any-order-complete}
+use Rattle.rules.proofs.Prices.{frames-price, price-grows}
+use Rattle.rules.proofs.Routes.{nowhere-off, last-there, last-total, route-same, along-add, climbs-below}
+use Rattle.rules.proofs.Gaps.{window-most}
+use Rattle.rules.proofs.Delays.{jitter-known, delay-enough, delay-least}
+use Rattle.rules.proofs.Server.{Server, Bursts, Passes, before, sizeOf}
+use Rattle.rules.proofs.Flow.{own, young, into, total-channel, total-born, total-message, message-young, message-other, none-into, came-sum, came-own, Flows, flows, window, longer, shortest}
+use Rattle.rules.proofs.Network.{every-wire, every-held}
+
+-- A message is priced by its payload.
+message-size : (t : View) (released : Releases) (k r : ℕ) → total sizeOf (message t released k r) ≡ price (t .framing k) (released k r)
+message-size t released k r = total-message t released k r sizeOf ∙ frames-price (t .framing k) (released k r)
+
+price-none : (framing : ℕ) → framing ≤ 1 → price framing 0 ≡ 0
+unfolding price lastBytes
+price-none zero h = refl
+price-none (suc zero) h = refl
+price-none (suc (suc n)) h = absurd (omega arith)
+
+module _ (t : View) (sound : Sound t) (released : Releases) (keeps : Keeps t released) (k : ℕ) (lk : k < t .channels) where
+  message-most : (r : ℕ) → total sizeOf (message t released k r) ≤ cost t k
+  message-most r =
+      omega (
+        arith,
+        message-size t released k r,
+        price-grows (t .framing k) (sound .framing-most k lk) (released k r) (t .payload k) (keeps .declared k r lk)
+      )
+
+  some-released : (r : ℕ) → 0 < total sizeOf (message t released k r) → 0 < released k r
+  some-released r h =
+      elim (eq-zero-or-pos (released k r)) [
+        inl e ↦ absurd (omega (arith, message-size t released k r, ap (price (t .framing k)) e, price-none (t .framing k) (sound .framing-most k lk)))
+      | inr some ↦ some
+      ]
+
+  -- A channel's releases in slot a and n further slots: C + C × n / P, times H.
+  releases-most :
+      (a n : ℕ) →
+      t .hyper * before (message t released k) sizeOf (suc (a + n))
+      ≤ t .hyper * before (message t released k) sizeOf a + (cost t k * t .hyper + cost t k * times t k * n)
+  releases-most a n =
+      let most =
+          window-most (λ (r : ℕ). total sizeOf (message t released k r)) (cost t k) (t .period k) message-most
+          (λ r later l x y. keeps .apart k r later lk l (some-released r x) (some-released later y)) a n in
+      omega (
+        arith,
+        mul-le-mul-left (times t k) most,
+        ap (λ (x : ℕ). x * before (message t released k) sizeOf (suc (a + n))) (sound .divides k lk),
+        ap (λ (x : ℕ). x * before (message t released k) sizeOf a) (sound .divides k lk),
+        ap (λ (x : ℕ). cost t k * x) (sound .divides k lk)
+      )
+
+bool-cases : (b : Bool) → (b ≡ true) ⊎ (b ≡ false)
+bool-cases true = inl refl
+bool-cases false = inr refl
+
+-- Rounding down at the end loses nothing: bytes are whole.
+divided : (h x y z : ℕ) → 1 ≤ h → h * x ≤ h * y + z → x ≤ y + z / h
+divided h x y z l le =
+    elim (decLe x (y + z / h)) [
+      yes fine ↦ fine
+    | no more ↦ absurd (omega (arith, lt-div-mul-add {a = z} {b = h} l, mul-le-mul-left {m = suc (y + z / h)} {n = x} h (omega arith)))
+    ]
+
+-- what a wire may add to the time that a frame takes
+abbrev lagOf : View → ℕ → ℕ
+lagOf t v = delay t v - 1
+
+module _
+    (t : View) (sound : Sound t) (fits : (w : ℕ) → w < t .wires → load t w ≤ t .rate w * t .hyper)
+    (released : Releases) (keeps : Keeps t released) (run : Run t released)
+  where
+
+  -- A channel's share of what comes to a wire in slot a and d further slots, times H.
+  module _
+      (w : ℕ) (lw : w < t .wires)
+      (below : (v : ℕ) → v < w → v < t .wires → Passes (run .arrived v) (run .gone v) (lagOf t v))
+    where
+    share-most :
+        (k : ℕ) → k < t .channels → (a d : ℕ) →
+        t .hyper * before (into t released (run .gone) w k) sizeOf (suc (a + d))
+        ≤ t .hyper * before (into t released (run .gone) w k) sizeOf a + (shareOf t (known t w) w k + d * loadOf t w k)
+    unfolding shareOf loadOf dueFrom total
+    share-most k lk a d =
+        elim (bool-cases (on t w k)) [
+          inl there ↦
+          (let own-came = came-own t released (run .arrived) (run .gone) (run .any-order) w lw k lk sizeOf in
+          let flow = flows t released (run .arrived) (run .gone) (run .any-order) (lagOf t) k lk (sound .climbs k lk) w below there in
+          let seen = window t released (run .arrived) (lagOf t) w k flow sizeOf a d in
+          let start = seen .0 in
+          let end = suc (start + (d + longer t (lagOf t) w k)) in
+          rw (there, jitter-known t w k (sound .climbs k lk) there)
+          (omega (
+            arith,
+            ap (λ (x : ℕ). t .hyper * x) (own-came a),
+            ap (λ (x : ℕ). t .hyper * x) (own-came (suc (a + d))),
+            mul-le-mul-left (t .hyper) (seen .1),
+            mul-le-mul-left (t .hyper) (seen .2),
+            releases-most t sound released keeps k lk start (d + longer t (lagOf t) w k)
+          )))
+        | inr off ↦
+          (let none = none-into t released (run .gone) w k (nowhere-off w (t .route k) off) sizeOf (suc (a + d)) in
+          omega (arith, ap (λ (x : ℕ). t .hyper * x) none))
+        ]
+
+    -- All shares together: the burst rule, with the backlog for burst.
+    shares-most :
+        (a d : ℕ) →
+        t .hyper * before (run .arrived w) sizeOf (suc (a + d))
+        ≤ t .hyper * before (run .arrived w) sizeOf a + (sum (shareOf t (known t w) w) (t .channels) + d * load t w)
+    unfolding load
+    shares-most a d =
+        let came = came-sum t released (run .arrived) (run .gone) (run .any-order) w lw sizeOf in
+        let from : ℕ → ℕ → ℕ = λ n k. before (into t released (run .gone) w k) sizeOf n in
+        let rest : ℕ → ℕ = λ k. shareOf t (known t w) w k + d * loadOf t w k in
+        omega (
+          arith,
+          ap (λ (x : ℕ). t .hyper * x) (came a),
+          ap (λ (x : ℕ). t .hyper * x) (came (suc (a + d))),
+          sum-scale (t .hyper) (from a) (t .channels),
+          sum-scale (t .hyper) (from (suc (a + d))) (t .channels),
+          sum-le (λ k. t .hyper * from (suc (a + d)) k) (λ k. t .hyper * from a k + rest k) (t .channels) (λ k lk. share-most k lk a d),
+          sum-add (λ k. t .hyper * from a k) rest (t .channels),
+          sum-add (shareOf t (known t w) w) (λ k. d * loadOf t w k) (t .channels),
+          sum-scale d (loadOf t w) (t .channels)
+        )
+
+    burst-rule : Bursts (t .rate w) (λ s. 0) (λ s. 0) (run .queue w) (run .arrived w) (backlog t w)
+    unfolding backlog backlogAfter
+    burst-rule a d none =
+        let x = before (run .arrived w) sizeOf (suc (a + d)) in
+        let y = before (run .arrived w) sizeOf a + t .rate w * d in
+        let shares = sum (shareOf t (known t w) w) (t .channels) in
+        let most : x ≤ y + shares / t .hyper =
+            divided (t .hyper) x y shares (sound .hyper-least) (omega (arith, shares-most a d, mul-le-mul-left d (fits w lw))) in
+        omega (arith, most, sum-none (suc (a + d)))
+
+  base : (w : ℕ) → w < t .wires → Server (t .rate w) (λ s. t .rate w) (λ s. 0) (λ s. 0) (run .queue w) (run .arrived w) (run .gone w)
+  base w l =
+      record {
+        empty = run .empty w l;
+        sends = λ s. run .sends w s l;
+        keeps = λ s. run .keeps w s l;
+        serves = λ s more. omega arith;
+      }
+
+  enough :
+      (w s : ℕ) → w < t .wires →
+      backlog t w + sum (λ s. 0) (suc (suc (s + lagOf t w))) ≤ t .rate w * suc (lagOf t w) + sum (λ s. 0) (suc s)
+  enough w s l =
+      omega (
+        arith,
+        sum-none (suc (suc (s + lagOf t w))),
+        delay-enough t w (sound .rate-least w l),
+        mul-le-mul-left {m = delay t w} {n = suc (lagOf t w)} (t .rate w) (omega arith)
+      )
+
+  passing : (w : ℕ) → w < t .wires → Passes (run .arrived w) (run .gone w) (lagOf t w)
+  passing = every-wire (t .wires) (t .rate) (λ w s. t .rate w) (λ w s. 0) (λ w s. 0) (run .queue) (run .arrived) (run .gone) base (backlog t) (lagOf t) burst-rule enough
+
+  pub backlog-holds : (w slot : ℕ) → w < t .wires → held run w slot ≤ backlog t w
+  backlog-holds w slot l =
+      omega (arith, every-held (t .wires) (t .rate) (λ w s. t .rate w) (λ w s. 0) (λ w s. 0) (run .queue) (run .arrived) (run .gone) base (backlog t) (lagOf t) burst-rule enough w l slot)
