@@ -30,12 +30,12 @@ pub known-delay : (t : View) (w v : ℕ) → v < w → known t w v ≡ delay t v
 known-delay t zero v l = absurd (omega arith)
 known-delay t (suc w) v l =
     elim (ℕ-discrete v w) [
-      yes e ↦
-      (let at : v ≡ length (delaysBelow t w) + 0 = omega (arith, delays-length t w) in
-      rw (next-delay t w, at) (getD-append-add (delaysBelow t w) (delay t w ∷ []) 0 0 ∙ ap (delay t) (sym e ∙ at)))
-    | no d ↦
-      (let below : v < length (delaysBelow t w) = omega (arith, delays-length t w) in
-      rw (next-delay t w) (List·getD-append (delaysBelow t w) (delay t w ∷ []) 0 v below ∙ known-delay t w v (omega arith)))
+      | yes e ↦
+          (let at : v ≡ length (delaysBelow t w) + 0 = omega (arith, delays-length t w) in
+          rw (next-delay t w, at) (getD-append-add (delaysBelow t w) (delay t w ∷ []) 0 0 ∙ ap (delay t) (sym e ∙ at)))
+      | no d ↦
+          (let below : v < length (delaysBelow t w) = omega (arith, delays-length t w) in
+          rw (next-delay t w) (List·getD-append (delaysBelow t w) (delay t w ∷ []) 0 v below ∙ known-delay t w v (omega arith)))
     ]
 
 -- so the jitter is the sum of the delays before, each less 1

@@ -32,8 +32,8 @@ unfolding total ofChannel
 total-channel g k [] = refl
 total-channel g k (f ∷ fs) =
     elim (ℕ-discrete (f .channel) k) [
-      yes e ↦ rw (eq-eqb (f .channel) k e) (omega (arith, total-channel g k fs))
-    | no d ↦ rw (ne-eqb (f .channel) k d) (omega (arith, total-channel g k fs))
+      | yes e ↦ rw (eq-eqb (f .channel) k e) (omega (arith, total-channel g k fs))
+      | no d ↦ rw (ne-eqb (f .channel) k d) (omega (arith, total-channel g k fs))
     ]
 
 pub total-born : (g : Frame → ℕ) (r : ℕ) (fs : List Frame) → total g (bornIn r fs) ≡ total (young r g) fs
@@ -41,8 +41,8 @@ unfolding total bornIn
 total-born g r [] = refl
 total-born g r (f ∷ fs) =
     elim (ℕ-discrete (f .born) r) [
-      yes e ↦ rw (eq-eqb (f .born) r e) (omega (arith, total-born g r fs))
-    | no d ↦ rw (ne-eqb (f .born) r d) (omega (arith, total-born g r fs))
+      | yes e ↦ rw (eq-eqb (f .born) r e) (omega (arith, total-born g r fs))
+      | no d ↦ rw (ne-eqb (f .born) r d) (omega (arith, total-born g r fs))
     ]
 
 only-twice : (b : Bool) (n : ℕ) → only b (only b n) ≡ only b n
@@ -94,8 +94,8 @@ due-other src t released gone slot j k g d =
     apart : (f : Frame) → own j (own k g) f ≡ 0
     apart f =
         elim (ℕ-discrete (f .channel) k) [
-          yes e ↦ rw (ne-eqb (f .channel) j (omega arith)) refl
-        | no n ↦ rw (ne-eqb (f .channel) k n) (only-zero (eqb (f .channel) j))
+          | yes e ↦ rw (ne-eqb (f .channel) j (omega arith)) refl
+          | no n ↦ rw (ne-eqb (f .channel) k n) (only-zero (eqb (f .channel) j))
         ]
 
 -- what channel k brings to wire w, slot by slot
@@ -127,14 +127,14 @@ reached t gone v g zero =
     ap (before (gone v) g) e
 reached t gone v g (suc n) =
     elim (decLe (1 + t .prop v) n) [
-      yes l ↦
-      rw (le-leb (1 + t .prop v) n l)
-      (let e : suc n - (1 + t .prop v) ≡ suc (n - (1 + t .prop v)) = omega arith in
-      omega (arith, reached t gone v g n, ap (before (gone v) g) e))
-    | no m ↦
-      rw (lt-leb (1 + t .prop v) n (omega arith))
-      (let e : suc n - (1 + t .prop v) ≡ n - (1 + t .prop v) = omega arith in
-      omega (arith, reached t gone v g n, ap (before (gone v) g) e))
+      | yes l ↦
+          rw (le-leb (1 + t .prop v) n l)
+          (let e : suc n - (1 + t .prop v) ≡ suc (n - (1 + t .prop v)) = omega arith in
+          omega (arith, reached t gone v g n, ap (before (gone v) g) e))
+      | no m ↦
+          rw (lt-leb (1 + t .prop v) n (omega arith))
+          (let e : suc n - (1 + t .prop v) ≡ n - (1 + t .prop v) = omega arith in
+          omega (arith, reached t gone v g n, ap (before (gone v) g) e))
     ]
 
 -- The shortest time from release to a wire: 1 + propagation for each wire passed. What the wires passed may add to it.
@@ -155,113 +155,112 @@ module _
     (t : View) (released : Releases) (arrived gone : Gone)
     (any-order : (w slot : ℕ) → w < t .wires → AnyOrder (due t released gone w slot) (arrived w slot))
   where
+    arrived-sum :
+        (w slot : ℕ) → w < t .wires → (g : Frame → ℕ) →
+        total g (arrived w slot) ≡ sum (λ (k : ℕ). total g (into t released gone w k slot)) (t .channels)
+    unfolding due
+    arrived-sum w slot l g = sym (any-order-total g (any-order w slot l)) ∙ due-sum t released gone w slot (t .channels) g
 
-  arrived-sum :
-      (w slot : ℕ) → w < t .wires → (g : Frame → ℕ) →
-      total g (arrived w slot) ≡ sum (λ (k : ℕ). total g (into t released gone w k slot)) (t .channels)
-  unfolding due
-  arrived-sum w slot l g = sym (any-order-total g (any-order w slot l)) ∙ due-sum t released gone w slot (t .channels) g
+    -- what comes to a wire is what its channels bring
+    pub came-sum :
+        (w : ℕ) → w < t .wires → (g : Frame → ℕ) (n : ℕ) →
+        before (arrived w) g n ≡ sum (λ (k : ℕ). before (into t released gone w k) g n) (t .channels)
+    came-sum w l g n =
+        sum-same _ _ n (λ slot below. arrived-sum w slot l g)
+        ∙ sum-swap (λ (slot k : ℕ). total g (into t released gone w k slot)) (t .channels) n
 
-  -- what comes to a wire is what its channels bring
-  pub came-sum :
-      (w : ℕ) → w < t .wires → (g : Frame → ℕ) (n : ℕ) →
-      before (arrived w) g n ≡ sum (λ (k : ℕ). before (into t released gone w k) g n) (t .channels)
-  came-sum w l g n =
-      sum-same _ _ n (λ slot below. arrived-sum w slot l g)
-      ∙ sum-swap (λ (slot k : ℕ). total g (into t released gone w k slot)) (t .channels) n
+    pub came-own :
+        (w : ℕ) → w < t .wires → (k : ℕ) → k < t .channels → (g : Frame → ℕ) (n : ℕ) →
+        before (arrived w) (own k g) n ≡ before (into t released gone w k) g n
+    came-own w l k lk g n =
+        sum-same _ _ n (λ slot below.
+        arrived-sum w slot l (own k g)
+        ∙ sum-alone (λ (j : ℕ). total (own k g) (into t released gone w j slot)) (t .channels) k lk (λ j d. due-other (source (t .route j) w) t released gone slot j k g d)
+        ∙ due-own (source (t .route k) w) t released gone slot k g)
 
-  pub came-own :
-      (w : ℕ) → w < t .wires → (k : ℕ) → k < t .channels → (g : Frame → ℕ) (n : ℕ) →
-      before (arrived w) (own k g) n ≡ before (into t released gone w k) g n
-  came-own w l k lk g n =
-      sum-same _ _ n (λ slot below.
-      arrived-sum w slot l (own k g)
-      ∙ sum-alone (λ (j : ℕ). total (own k g) (into t released gone w j slot)) (t .channels) k lk (λ j d. due-other (source (t .route j) w) t released gone slot j k g d)
-      ∙ due-own (source (t .route k) w) t released gone slot k g)
+    pub came-released :
+        (w : ℕ) → w < t .wires → (k : ℕ) → k < t .channels → source (t .route k) w ≡ release → (g : Frame → ℕ) (n : ℕ) →
+        before (arrived w) (own k g) n ≡ before (message t released k) g n
+    unfolding dueFrom
+    came-released w l k lk e g n = came-own w l k lk g n ∙ ap (λ (src : Source). before (λ slot. dueFrom src t released gone slot k) g n) e
 
-  pub came-released :
-      (w : ℕ) → w < t .wires → (k : ℕ) → k < t .channels → source (t .route k) w ≡ release → (g : Frame → ℕ) (n : ℕ) →
-      before (arrived w) (own k g) n ≡ before (message t released k) g n
-  unfolding dueFrom
-  came-released w l k lk e g n = came-own w l k lk g n ∙ ap (λ (src : Source). before (λ slot. dueFrom src t released gone slot k) g n) e
+    pub came-passed :
+        (w : ℕ) → w < t .wires → (k : ℕ) → k < t .channels → (v : ℕ) → source (t .route k) w ≡ wire v → (g : Frame → ℕ) (n : ℕ) →
+        before (arrived w) (own k g) n ≡ before (gone v) (own k g) (n - (1 + t .prop v))
+    unfolding dueFrom
+    came-passed w l k lk v e g n =
+        came-own w l k lk g n
+        ∙ ap (λ (src : Source). before (λ slot. dueFrom src t released gone slot k) g n) e
+        ∙ sum-same _ _ n (λ slot below. total-channel g k (reaching t gone v slot))
+        ∙ reached t gone v (own k g) n
 
-  pub came-passed :
-      (w : ℕ) → w < t .wires → (k : ℕ) → k < t .channels → (v : ℕ) → source (t .route k) w ≡ wire v → (g : Frame → ℕ) (n : ℕ) →
-      before (arrived w) (own k g) n ≡ before (gone v) (own k g) (n - (1 + t .prop v))
-  unfolding dueFrom
-  came-passed w l k lk v e g n =
-      came-own w l k lk g n
-      ∙ ap (λ (src : Source). before (λ slot. dueFrom src t released gone slot k) g n) e
-      ∙ sum-same _ _ n (λ slot below. total-channel g k (reaching t gone v slot))
-      ∙ reached t gone v (own k g) n
+    module _ (lag : ℕ → ℕ) (k : ℕ) (lk : k < t .channels) where
+      begins-flows : (w : ℕ) → w < t .wires → Begins (t .route k) w → Flows t released arrived lag w k
+      begins-flows w l b =
+          let none : shortest t w k ≡ 0 = b .adds (λ v. 1 + t .prop v) in
+          let calm : longer t lag w k ≡ 0 = b .adds lag in
+          record {
+            sooner = λ g n.
+                (let e : n - shortest t w k ≡ n = omega arith in
+                omega (arith, came-released w l k lk (b .from) g n, ap (before (message t released k) g) e));
+            later = λ g n.
+                (let e : n + (shortest t w k + longer t lag w k) ≡ n = omega arith in
+                omega (arith, came-released w l k lk (b .from) g n, ap (before (arrived w) (own k g)) e));
+          }
 
-  module _ (lag : ℕ → ℕ) (k : ℕ) (lk : k < t .channels) where
-    begins-flows : (w : ℕ) → w < t .wires → Begins (t .route k) w → Flows t released arrived lag w k
-    begins-flows w l b =
-        let none : shortest t w k ≡ 0 = b .adds (λ v. 1 + t .prop v) in
-        let calm : longer t lag w k ≡ 0 = b .adds lag in
-        record {
-          sooner = λ g n.
-            (let e : n - shortest t w k ≡ n = omega arith in
-            omega (arith, came-released w l k lk (b .from) g n, ap (before (message t released k) g) e));
-          later = λ g n.
-            (let e : n + (shortest t w k + longer t lag w k) ≡ n = omega arith in
-            omega (arith, came-released w l k lk (b .from) g n, ap (before (arrived w) (own k g)) e));
-        }
+      follows-flows :
+          (v w : ℕ) → w < t .wires → Follows (t .route k) (source (t .route k) w) v w →
+          Flows t released arrived lag v k → Passes (arrived v) (gone v) (lag v) → Flows t released arrived lag w k
+      unfolding sum
+      follows-flows v w l f flow passes =
+          let near : shortest t w k ≡ shortest t v k + (1 + t .prop v) = f .adds (λ v. 1 + t .prop v) in
+          let far : longer t lag w k ≡ longer t lag v k + lag v = f .adds lag in
+          record {
+            sooner = λ g n.
+                (let e : n - (1 + t .prop v) - shortest t v k ≡ n - shortest t w k = omega arith in
+                omega (
+                  arith,
+                  came-passed w l k lk v (f .from) g n,
+                  passes .fair (own k g) (n - (1 + t .prop v)),
+                  flow .sooner g (n - (1 + t .prop v)),
+                  ap (before (message t released k) g) e,
+                ));
+            later = λ g n.
+                elim n [
+                  | zero ↦ omega arith
+                  | suc m ↦
+                      (let onto = m + (shortest t v k + longer t lag v k) in
+                      let came : suc m + (shortest t v k + longer t lag v k) ≡ suc onto = omega arith in
+                      let left : suc m + (shortest t w k + longer t lag w k) - (1 + t .prop v) ≡ suc (onto + lag v) = omega arith in
+                      omega (
+                        arith,
+                        came-passed w l k lk v (f .from) g (suc m + (shortest t w k + longer t lag w k)),
+                        passes .prompt (own k g) onto,
+                        flow .later g (suc m),
+                        ap (before (arrived v) (own k g)) came,
+                        ap (before (gone v) (own k g)) left,
+                      ))
+                ];
+          }
 
-    follows-flows :
-        (v w : ℕ) → w < t .wires → Follows (t .route k) (source (t .route k) w) v w →
-        Flows t released arrived lag v k → Passes (arrived v) (gone v) (lag v) → Flows t released arrived lag w k
-    unfolding sum
-    follows-flows v w l f flow passes =
-        let near : shortest t w k ≡ shortest t v k + (1 + t .prop v) = f .adds (λ v. 1 + t .prop v) in
-        let far : longer t lag w k ≡ longer t lag v k + lag v = f .adds lag in
-        record {
-          sooner = λ g n.
-            (let e : n - (1 + t .prop v) - shortest t v k ≡ n - shortest t w k = omega arith in
-            omega (
-              arith,
-              came-passed w l k lk v (f .from) g n,
-              passes .fair (own k g) (n - (1 + t .prop v)),
-              flow .sooner g (n - (1 + t .prop v)),
-              ap (before (message t released k) g) e
-            ));
-          later = λ g n.
-            elim n [
-              zero ↦ omega arith
-            | suc m ↦
-              (let onto = m + (shortest t v k + longer t lag v k) in
-              let came : suc m + (shortest t v k + longer t lag v k) ≡ suc onto = omega arith in
-              let left : suc m + (shortest t w k + longer t lag w k) - (1 + t .prop v) ≡ suc (onto + lag v) = omega arith in
-              omega (
-                arith,
-                came-passed w l k lk v (f .from) g (suc m + (shortest t w k + longer t lag w k)),
-                passes .prompt (own k g) onto,
-                flow .later g (suc m),
-                ap (before (arrived v) (own k g)) came,
-                ap (before (gone v) (own k g)) left
-              ))
-            ];
-        }
-
-    -- on every wire of its route, where the wires below pass things on
-    pub flows :
-        Climbs (t .wires) 0 (t .route k) → (w : ℕ) →
-        ((v : ℕ) → v < w → v < t .wires → Passes (arrived v) (gone v) (lag v)) →
-        has w (t .route k) ≡ true → Flows t released arrived lag w k
-    flows c w passes there =
-        ascend (λ (w : ℕ). ((v : ℕ) → v < w → v < t .wires → Passes (arrived v) (gone v) (lag v)) → has w (t .route k) ≡ true → Flows t released arrived lag w k)
-        (λ w rest passes there.
-        let l : w < t .wires = climbs-below (t .wires) 0 w (t .route k) c there in
-        elim (follows (t .wires) 0 w (t .route k) c there) [
-          inl b ↦ begins-flows w l b
-        | inr f ↦
-          (let v = f .0 in
-          follows-flows v w l (f .1)
-          (rest v (f .1 .less) (λ u lu. passes u (omega (arith, f .1 .less))) (f .1 .there))
-          (passes v (f .1 .less) (omega (arith, f .1 .less))))
-        ])
-        w passes there
+      -- on every wire of its route, where the wires below pass things on
+      pub flows :
+          Climbs (t .wires) 0 (t .route k) → (w : ℕ) →
+          ((v : ℕ) → v < w → v < t .wires → Passes (arrived v) (gone v) (lag v)) →
+          has w (t .route k) ≡ true → Flows t released arrived lag w k
+      flows c w passes there =
+          ascend (λ (w : ℕ). ((v : ℕ) → v < w → v < t .wires → Passes (arrived v) (gone v) (lag v)) → has w (t .route k) ≡ true → Flows t released arrived lag w k)
+          (λ w rest passes there.
+          let l : w < t .wires = climbs-below (t .wires) 0 w (t .route k) c there in
+          elim (follows (t .wires) 0 w (t .route k) c there) [
+            | inl b ↦ begins-flows w l b
+            | inr f ↦
+                (let v = f .0 in
+                follows-flows v w l (f .1)
+                (rest v (f .1 .less) (λ u lu. passes u (omega (arith, f .1 .less))) (f .1 .there))
+                (passes v (f .1 .less) (omega (arith, f .1 .less))))
+          ])
+          w passes there
 
 -- A window at wire w is one of releases, wider by what the wires passed may add.
 pub window :
@@ -272,20 +271,19 @@ pub window :
     × (before (arrived w) (own k g) (suc (a + d)) ≤ before (message t released k) g (suc (start + (d + longer t lag w k))))
 unfolding sum
 window t released arrived lag w k flow g a d =
-    let start = a - (shortest t w k + longer t lag w k) in
-    (
+    let start = a - (shortest t w k + longer t lag w k) in (
       start,
       elim (decLe (shortest t w k + longer t lag w k) a) [
-        yes l ↦
-        (let e : start + (shortest t w k + longer t lag w k) ≡ a = omega arith in
-        omega (arith, flow .later g start, ap (before (arrived w) (own k g)) e))
-      | no n ↦
-        (let e : start ≡ 0 = omega arith in
-        omega (arith, ap (before (message t released k) g) e))
+        | yes l ↦
+            (let e : start + (shortest t w k + longer t lag w k) ≡ a = omega arith in
+            omega (arith, flow .later g start, ap (before (arrived w) (own k g)) e))
+        | no n ↦
+            (let e : start ≡ 0 = omega arith in
+            omega (arith, ap (before (message t released k) g) e))
       ],
       omega (
         arith,
         flow .sooner g (suc (a + d)),
-        sum-grows (λ (s : ℕ). total g (message t released k s)) (suc (a + d) - shortest t w k) (suc (start + (d + longer t lag w k))) (omega arith)
-      )
+        sum-grows (λ (s : ℕ). total g (message t released k s)) (suc (a + d) - shortest t w k) (suc (start + (d + longer t lag w k))) (omega arith),
+      ),
     )

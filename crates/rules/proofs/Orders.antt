@@ -55,8 +55,8 @@ unfolding total
 taken x [] h = absurd (omega arith)
 taken x (z ∷ zs) h =
     elim (bool-cases (same x z)) [
-      inl e ↦ (zs, rw (same-true x z e) here)
-    | inr e ↦ (let rest = taken x zs (omega (arith, rw e at h)) in (z ∷ rest .0, later (rest .1)))
+      | inl e ↦ (zs, rw (same-true x z e) here)
+      | inr e ↦ (let rest = taken x zs (omega (arith, rw e at h)) in (z ∷ rest .0, later (rest .1)))
     ]
 
 pub any-order-complete : (xs ys : List Frame) → ((f : Frame) → count f xs ≡ count f ys) → AnyOrder xs ys

@@ -26,8 +26,8 @@ unfolding has
 climbs-least n least w [] c h = absurd (true-false (sym h))
 climbs-least n least w (x ∷ xs) c h =
     elim (ℕ-discrete x w) [
-      yes e ↦ omega (arith, c .1)
-    | no d ↦ omega (arith, c .1, climbs-least n (suc x) w xs (c .2) (rw (ne-eqb x w d) at h))
+      | yes e ↦ omega (arith, c .1)
+      | no d ↦ omega (arith, c .1, climbs-least n (suc x) w xs (c .2) (rw (ne-eqb x w d) at h))
     ]
 
 pub climbs-below : (n least w : ℕ) (xs : List ℕ) → Climbs n least xs → has w xs ≡ true → w < n
@@ -35,8 +35,8 @@ unfolding has
 climbs-below n least w [] c h = absurd (true-false (sym h))
 climbs-below n least w (x ∷ xs) c h =
     elim (ℕ-discrete x w) [
-      yes e ↦ omega (arith, c .0)
-    | no d ↦ climbs-below n (suc x) w xs (c .2) (rw (ne-eqb x w d) at h)
+      | yes e ↦ omega (arith, c .0)
+      | no d ↦ climbs-below n (suc x) w xs (c .2) (rw (ne-eqb x w d) at h)
     ]
 
 -- Only the wires below w count.
@@ -47,15 +47,15 @@ unfolding has along
 along-same f g n least w [] c h e = refl
 along-same f g n least w (x ∷ xs) c h e =
     elim (ℕ-discrete x w) [
-      yes q ↦ rw (eq-eqb x w q) refl
-    | no d ↦
-      (let later : has w xs ≡ true = rw (ne-eqb x w d) at h in
-      rw (ne-eqb x w d)
-      (omega (
-        arith,
-        e x (climbs-least n (suc x) w xs (c .2) later),
-        along-same f g n (suc x) w xs (c .2) later e
-      )))
+      | yes q ↦ rw (eq-eqb x w q) refl
+      | no d ↦
+          (let later : has w xs ≡ true = rw (ne-eqb x w d) at h in
+          rw (ne-eqb x w d)
+          (omega (
+            arith,
+            e x (climbs-least n (suc x) w xs (c .2) later),
+            along-same f g n (suc x) w xs (c .2) later e,
+          )))
     ]
 
 pub along-add : (f g : ℕ → ℕ) (w : ℕ) (xs : List ℕ) → along (λ v. f v + g v) xs w ≡ along f xs w + along g xs w
@@ -63,8 +63,8 @@ unfolding along
 along-add f g w [] = refl
 along-add f g w (x ∷ xs) =
     elim (ℕ-discrete x w) [
-      yes q ↦ rw (eq-eqb x w q) refl
-    | no d ↦ rw (ne-eqb x w d) (omega (arith, along-add f g w xs))
+      | yes q ↦ rw (eq-eqb x w q) refl
+      | no d ↦ rw (ne-eqb x w d) (omega (arith, along-add f g w xs))
     ]
 
 -- Where frames come to a wire of the route from: the route begins there, or v is the wire before it.
@@ -83,8 +83,8 @@ unfolding has after
 nowhere-after v w [] h = refl
 nowhere-after v w (x ∷ xs) h =
     elim (ℕ-discrete x w) [
-      yes e ↦ absurd (true-false (rw (eq-eqb x w e) at h))
-    | no d ↦ rw (ne-eqb x w d) (nowhere-after x w xs (rw (ne-eqb x w d) at h))
+      | yes e ↦ absurd (true-false (rw (eq-eqb x w e) at h))
+      | no d ↦ rw (ne-eqb x w d) (nowhere-after x w xs (rw (ne-eqb x w d) at h))
     ]
 
 pub nowhere-off : (w : ℕ) (xs : List ℕ) → has w xs ≡ false → source xs w ≡ nowhere
@@ -92,8 +92,8 @@ unfolding has source
 nowhere-off w [] h = refl
 nowhere-off w (x ∷ xs) h =
     elim (ℕ-discrete x w) [
-      yes e ↦ absurd (true-false (rw (eq-eqb x w e) at h))
-    | no d ↦ rw (ne-eqb x w d) (nowhere-after x w xs (rw (ne-eqb x w d) at h))
+      | yes e ↦ absurd (true-false (rw (eq-eqb x w e) at h))
+      | no d ↦ rw (ne-eqb x w d) (nowhere-after x w xs (rw (ne-eqb x w d) at h))
     ]
 
 along-at : (f : ℕ → ℕ) (x w : ℕ) (xs : List ℕ) → x ≡ w → along f (x ∷ xs) w ≡ 0
@@ -110,35 +110,33 @@ unfolding has after
 follows-after n w x [] c h = absurd (true-false (sym h))
 follows-after n w x (y ∷ ys) c h =
     elim (ℕ-discrete y w) [
-      yes e ↦
-      (
+      | yes e ↦ (
         x,
         record {
           from = rw (eq-eqb y w e) refl;
           there = rw (eq-eqb x x refl) refl;
           less = omega (arith, c .1);
           adds = λ f. omega (arith, along-past f x w (y ∷ ys) (omega (arith, c .1)), along-at f y w ys e, along-at f x x (y ∷ ys) refl);
-        }
+        },
       )
-    | no d ↦
-      (let step = follows-after n w y ys (c .2) (rw (ne-eqb y w d) at h) in
-      let v = step .0 in
-      let above : suc x ≤ v = climbs-least n (suc x) v (y ∷ ys) c (step .1 .there) in
-      (
-        v,
-        record {
-          from = rw (ne-eqb y w d) (step .1 .from);
-          there = rw (ne-eqb x v (omega arith)) (step .1 .there);
-          less = step .1 .less;
-          adds = λ f.
-            omega (
-              arith,
-              along-past f x w (y ∷ ys) (omega (arith, step .1 .less)),
-              along-past f x v (y ∷ ys) (omega arith),
-              step .1 .adds f
-            );
-        }
-      ))
+      | no d ↦
+          (let step = follows-after n w y ys (c .2) (rw (ne-eqb y w d) at h) in
+          let v = step .0 in
+          let above : suc x ≤ v = climbs-least n (suc x) v (y ∷ ys) c (step .1 .there) in (
+            v,
+            record {
+              from = rw (ne-eqb y w d) (step .1 .from);
+              there = rw (ne-eqb x v (omega arith)) (step .1 .there);
+              less = step .1 .less;
+              adds = λ f.
+                  omega (
+                    arith,
+                    along-past f x w (y ∷ ys) (omega (arith, step .1 .less)),
+                    along-past f x v (y ∷ ys) (omega arith),
+                    step .1 .adds f,
+                  );
+            },
+          ))
     ]
 
 pub follows : (n least w : ℕ) (xs : List ℕ) → Climbs n least xs → has w xs ≡ true → Begins xs w ⊎ ((v : ℕ) × Follows xs (source xs w) v w)
@@ -146,10 +144,10 @@ unfolding has source
 follows n least w [] c h = absurd (true-false (sym h))
 follows n least w (x ∷ xs) c h =
     elim (ℕ-discrete x w) [
-      yes e ↦ inl (record { from = rw (eq-eqb x w e) refl; adds = λ f. along-at f x w xs e })
-    | no d ↦
-      (let step = follows-after n w x xs (c .2) (rw (ne-eqb x w d) at h) in
-      inr (step .0, rw (ne-eqb x w d) (step .1)))
+      | yes e ↦ inl (record { from = rw (eq-eqb x w e) refl; adds = λ f. along-at f x w xs e })
+      | no d ↦
+          (let step = follows-after n w x xs (c .2) (rw (ne-eqb x w d) at h) in
+          inr (step .0, rw (ne-eqb x w d) (step .1)))
     ]
 
 -- The last wire ends the route.
@@ -170,7 +168,7 @@ last-total f n least (x ∷ y ∷ ys) l c =
     omega (
       arith,
       last-total f n (suc x) (y ∷ ys) (omega arith) (c .2),
-      along-past f x z (y ∷ ys) (omega (arith, climbs-least n (suc x) z (y ∷ ys) (c .2) (last-there (y ∷ ys) (omega arith))))
+      along-past f x z (y ∷ ys) (omega (arith, climbs-least n (suc x) z (y ∷ ys) (c .2) (last-there (y ∷ ys) (omega arith)))),
     )
 
 pub route-same : (f g : ℕ → ℕ) (xs : List ℕ) → ((v : ℕ) → has v xs ≡ true → f v ≡ g v) → total f xs ≡ total g xs
@@ -180,5 +178,5 @@ route-same f g (x ∷ xs) e =
     omega (
       arith,
       e x (rw (eq-eqb x x refl) refl),
-      route-same f g xs (λ v there. e v (or-right (eqb x v) there))
+      route-same f g xs (λ v there. e v (or-right (eqb x v) there)),
     )

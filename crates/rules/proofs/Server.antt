@@ -31,8 +31,8 @@ unfolding sent kept total
 conserved g b [] = refl
 conserved g b (x ∷ q) =
     elim (decLe (x .left) b) [
-      yes l ↦ rw (le-leb (x .left) b l) (omega (arith, conserved g (b - x .left) q))
-    | no n ↦ rw (lt-leb (x .left) b (omega arith)) (omega arith)
+      | yes l ↦ rw (le-leb (x .left) b l) (omega (arith, conserved g (b - x .left) q))
+      | no n ↦ rw (lt-leb (x .left) b (omega arith)) (omega arith)
     ]
 
 -- It sends all it may, as long as there is something.
@@ -41,8 +41,8 @@ unfolding kept bytes total
 kept-bytes b [] = omega arith
 kept-bytes b (x ∷ q) =
     elim (decLe (x .left) b) [
-      yes l ↦ rw (le-leb (x .left) b l) (omega (arith, kept-bytes (b - x .left) q))
-    | no n ↦ rw (lt-leb (x .left) b (omega arith)) (omega arith)
+      | yes l ↦ rw (le-leb (x .left) b l) (omega (arith, kept-bytes (b - x .left) q))
+      | no n ↦ rw (lt-leb (x .left) b (omega arith)) (omega arith)
     ]
 
 -- First come, first served: of a queue p, then r, p goes first.
@@ -57,8 +57,8 @@ unfolding kept bytes total
 first-kept b [] r h = absurd (omega arith)
 first-kept b (x ∷ p) r h =
     elim (decLe (x .left) b) [
-      yes l ↦ rw (le-leb (x .left) b l) (first-kept (b - x .left) p r (omega arith))
-    | no n ↦ rw (lt-leb (x .left) b (omega arith)) refl
+      | yes l ↦ rw (le-leb (x .left) b l) (first-kept (b - x .left) p r (omega arith))
+      | no n ↦ rw (lt-leb (x .left) b (omega arith)) refl
     ]
 
 first-sent : (b : ℕ) (p r : List Waiting) → b < bytes p → sent b (p ++ r) ≡ sent b p
@@ -66,8 +66,8 @@ unfolding sent bytes total
 first-sent b [] r h = absurd (omega arith)
 first-sent b (x ∷ p) r h =
     elim (decLe (x .left) b) [
-      yes l ↦ rw (le-leb (x .left) b l) (ap (λ (fs : List Frame). x .frame ∷ fs) (first-sent (b - x .left) p r (omega arith)))
-    | no n ↦ rw (lt-leb (x .left) b (omega arith)) refl
+      | yes l ↦ rw (le-leb (x .left) b l) (ap (λ (fs : List Frame). x .frame ∷ fs) (first-sent (b - x .left) p r (omega arith)))
+      | no n ↦ rw (lt-leb (x .left) b (omega arith)) refl
     ]
 
 bytes-append : (p r : List Waiting) → bytes (p ++ r) ≡ bytes p + bytes r
@@ -106,138 +106,137 @@ module _
     (rate : ℕ) (room block extra : ℕ → ℕ) (queue : ℕ → List Waiting) (arrived gone : ℕ → List Frame)
     (server : Server rate room block extra queue arrived gone)
   where
+    held-bytes : (s : ℕ) → bytes (joined (queue s) (arrived s)) ≡ bytes (queue s) + total sizeOf (arrived s)
+    held-bytes s = omega (arith, bytes-append (queue s) (map whole (arrived s)), bytes-whole (arrived s))
 
-  held-bytes : (s : ℕ) → bytes (joined (queue s) (arrived s)) ≡ bytes (queue s) + total sizeOf (arrived s)
-  held-bytes s = omega (arith, bytes-append (queue s) (map whole (arrived s)), bytes-whole (arrived s))
+    left-bytes : (s : ℕ) → bytes (queue (suc s)) ≡ bytes (joined (queue s) (arrived s)) - room s
+    left-bytes s = ap bytes (server .keeps s) ∙ kept-bytes (room s) (joined (queue s) (arrived s))
 
-  left-bytes : (s : ℕ) → bytes (queue (suc s)) ≡ bytes (joined (queue s) (arrived s)) - room s
-  left-bytes s = ap bytes (server .keeps s) ∙ kept-bytes (room s) (joined (queue s) (arrived s))
-
-  -- what came is gone or waits
-  pub balance : (g : Frame → ℕ) (s : ℕ) → before gone g s + weight g (queue s) ≡ before arrived g s
-  unfolding sum total
-  balance g zero = rw (server .empty) refl
-  balance g (suc s) =
-      rw (server .keeps s, server .sends s)
-      (omega (
-        arith,
-        balance g s,
-        conserved g (room s) (joined (queue s) (arrived s)),
-        total-append (λ (x : Waiting). g (x .frame)) (queue s) (map whole (arrived s)),
-        weight-whole g (arrived s)
-      ))
-
-  -- Busy period: where every window that ends in slot s and begins with an empty queue brings little enough, so much is held.
-  -- `more` is what is still to come.
-  pub busy :
-      (s bound more : ℕ) →
-      ((a d : ℕ) → a + d ≡ s → bytes (queue a) ≡ 0 → block a + before arrived sizeOf (suc s) + sum extra (suc s) + more ≤ before arrived sizeOf a + sum extra (suc a) + rate * d + bound) →
-      bytes (joined (queue s) (arrived s)) + block s + more ≤ bound
-  unfolding sum bytes total
-  busy zero bound more h =
-      let none : bytes (queue 0) ≡ 0 = ap bytes (server .empty) in
-      omega (arith, held-bytes 0, h 0 0 refl none)
-  busy (suc s) bound more h =
-      elim (decLe (bytes (queue (suc s))) 0) [
-        yes l ↦ omega (arith, held-bytes (suc s), h (suc s) 0 (omega arith) (omega arith))
-      | no n ↦
-        omega (
+    -- what came is gone or waits
+    pub balance : (g : Frame → ℕ) (s : ℕ) → before gone g s + weight g (queue s) ≡ before arrived g s
+    unfolding sum total
+    balance g zero = rw (server .empty) refl
+    balance g (suc s) =
+        rw (server .keeps s, server .sends s)
+        (omega (
           arith,
-          held-bytes (suc s),
-          left-bytes s,
-          server .serves s (omega arith),
-          busy s (bound + rate) (more + total sizeOf (arrived (suc s)) + extra (suc s))
-          (λ a d e none. omega (arith, h a (suc d) (omega arith) none))
-        )
-      ]
-
-  -- of what is held in slot s, p at the head
-  module _ (s : ℕ) (p r : List Waiting) (e : joined (queue s) (arrived s) ≡ p ++ r) where
-    at-once : (g : Frame → ℕ) (n : ℕ) → bytes p ≤ room s → before gone g s + weight g p ≤ before gone g (suc (s + n))
-    unfolding sum
-    at-once g n l =
-        omega (
-          arith,
-          all-sent g (room s) p r l,
-          ap (λ (fs : List Frame). total g fs) (rw e at (server .sends s)),
-          sum-grows (λ (i : ℕ). total g (gone i)) (suc s) (suc (s + n)) (omega arith)
-        )
-
-    rests : room s < bytes p → queue (suc s) ≡ kept (room s) p ++ r
-    rests l = server .keeps s ∙ ap (kept (room s)) e ∙ first-kept (room s) p r l
-
-    in-part : (g : Frame → ℕ) → room s < bytes p → total g (gone s) + weight g (kept (room s) p) ≡ weight g p
-    in-part g l = rw (server .sends s, e, first-sent (room s) p r l) (conserved g (room s) p)
-
-    slower : room s < bytes p → block (suc s) + rate ≤ block s + room s + extra (suc s)
-    slower l =
-        server .serves s
-        (omega (arith, ap bytes (rests l), bytes-append (kept (room s) p) r, kept-bytes (room s) p))
-
-  -- p, at the head of what is held in slot s, is gone n slots later.
-  pub drained :
-      (g : Frame → ℕ) (n s : ℕ) (p r : List Waiting) →
-      joined (queue s) (arrived s) ≡ p ++ r →
-      bytes p + block s + sum extra (suc (suc (s + n))) ≤ rate * suc n + sum extra (suc s) →
-      before gone g s + weight g p ≤ before gone g (suc (s + n))
-  unfolding sum
-  drained g zero s p r e h =
-      elim (decLe (bytes p) (room s)) [
-        yes l ↦ at-once s p r e g 0 l
-      | no n ↦ absurd (omega (arith, slower s p r e (omega arith), ap (λ (x : ℕ). sum extra (suc (suc x))) (add-zero s)))
-      ]
-  drained g (suc n) s p r e h =
-      elim (decLe (bytes p) (room s)) [
-        yes l ↦ at-once s p r e g (suc n) l
-      | no m ↦
-        (let l : room s < bytes p = omega arith in
-        let next : joined (queue (suc s)) (arrived (suc s)) ≡ kept (room s) p ++ (r ++ map whole (arrived (suc s))) =
-            rw (rests s p r e l) (append-assoc (kept (room s) p) r (map whole (arrived (suc s)))) in
-        let shift : s + suc n ≡ suc s + n = omega arith in
-        omega (
-          arith,
-          in-part s p r e g l,
-          ap (λ (x : ℕ). before gone g (suc x)) shift,
-          drained g n (suc s) (kept (room s) p) (r ++ map whole (arrived (suc s))) next
-          (omega (
-            arith,
-            kept-bytes (room s) p,
-            slower s p r e l,
-            ap (λ (x : ℕ). sum extra (suc (suc x))) shift
-          ))
+          balance g s,
+          conserved g (room s) (joined (queue s) (arrived s)),
+          total-append (λ (x : Waiting). g (x .frame)) (queue s) (map whole (arrived s)),
+          weight-whole g (arrived s),
         ))
-      ]
 
-  pub held-most :
-      (burst : ℕ) → Bursts rate block extra queue arrived burst →
-      (s : ℕ) → bytes (joined (queue s) (arrived s)) + block s ≤ burst
-  held-most burst rule s =
-      omega (
-        arith,
-        busy s burst 0 (λ a d e none.
-        omega (
-          arith,
-          rule a d none,
-          ap (λ (x : ℕ). before arrived sizeOf (suc x)) e,
-          ap (λ (x : ℕ). sum extra (suc x)) e
-        ))
-      )
+    -- Busy period: where every window that ends in slot s and begins with an empty queue brings little enough, so much is held.
+    -- `more` is what is still to come.
+    pub busy :
+        (s bound more : ℕ) →
+        ((a d : ℕ) → a + d ≡ s → bytes (queue a) ≡ 0 → block a + before arrived sizeOf (suc s) + sum extra (suc s) + more ≤ before arrived sizeOf a + sum extra (suc a) + rate * d + bound) →
+        bytes (joined (queue s) (arrived s)) + block s + more ≤ bound
+    unfolding sum bytes total
+    busy zero bound more h =
+        let none : bytes (queue 0) ≡ 0 = ap bytes (server .empty) in
+        omega (arith, held-bytes 0, h 0 0 refl none)
+    busy (suc s) bound more h =
+        elim (decLe (bytes (queue (suc s))) 0) [
+          | yes l ↦ omega (arith, held-bytes (suc s), h (suc s) 0 (omega arith) (omega arith))
+          | no n ↦
+              omega (
+                arith,
+                held-bytes (suc s),
+                left-bytes s,
+                server .serves s (omega arith),
+                busy s (bound + rate) (more + total sizeOf (arrived (suc s)) + extra (suc s))
+                    (λ a d e none. omega (arith, h a (suc d) (omega arith) none)),
+              )
+        ]
 
-  -- what is held in slot s, and what comes first, is no more than is sent by slot s + lag
-  pub passes :
-      (lag : ℕ) →
-      ((s : ℕ) → bytes (joined (queue s) (arrived s)) + block s + sum extra (suc (suc (s + lag))) ≤ rate * suc lag + sum extra (suc s)) →
-      Passes arrived gone lag
-  unfolding sum
-  passes lag enough =
-      record {
-        fair = λ g s. omega (arith, balance g s);
-        prompt = λ g s.
+    -- of what is held in slot s, p at the head
+    module _ (s : ℕ) (p r : List Waiting) (e : joined (queue s) (arrived s) ≡ p ++ r) where
+      at-once : (g : Frame → ℕ) (n : ℕ) → bytes p ≤ room s → before gone g s + weight g p ≤ before gone g (suc (s + n))
+      unfolding sum
+      at-once g n l =
           omega (
             arith,
-            balance g s,
-            total-append (λ (x : Waiting). g (x .frame)) (queue s) (map whole (arrived s)),
-            weight-whole g (arrived s),
-            drained g lag s (joined (queue s) (arrived s)) [] (sym (append-nil (joined (queue s) (arrived s)))) (enough s)
-          );
-      }
+            all-sent g (room s) p r l,
+            ap (λ (fs : List Frame). total g fs) (rw e at (server .sends s)),
+            sum-grows (λ (i : ℕ). total g (gone i)) (suc s) (suc (s + n)) (omega arith),
+          )
+
+      rests : room s < bytes p → queue (suc s) ≡ kept (room s) p ++ r
+      rests l = server .keeps s ∙ ap (kept (room s)) e ∙ first-kept (room s) p r l
+
+      in-part : (g : Frame → ℕ) → room s < bytes p → total g (gone s) + weight g (kept (room s) p) ≡ weight g p
+      in-part g l = rw (server .sends s, e, first-sent (room s) p r l) (conserved g (room s) p)
+
+      slower : room s < bytes p → block (suc s) + rate ≤ block s + room s + extra (suc s)
+      slower l =
+          server .serves s
+          (omega (arith, ap bytes (rests l), bytes-append (kept (room s) p) r, kept-bytes (room s) p))
+
+    -- p, at the head of what is held in slot s, is gone n slots later.
+    pub drained :
+        (g : Frame → ℕ) (n s : ℕ) (p r : List Waiting) →
+        joined (queue s) (arrived s) ≡ p ++ r →
+        bytes p + block s + sum extra (suc (suc (s + n))) ≤ rate * suc n + sum extra (suc s) →
+        before gone g s + weight g p ≤ before gone g (suc (s + n))
+    unfolding sum
+    drained g zero s p r e h =
+        elim (decLe (bytes p) (room s)) [
+          | yes l ↦ at-once s p r e g 0 l
+          | no n ↦ absurd (omega (arith, slower s p r e (omega arith), ap (λ (x : ℕ). sum extra (suc (suc x))) (add-zero s)))
+        ]
+    drained g (suc n) s p r e h =
+        elim (decLe (bytes p) (room s)) [
+          | yes l ↦ at-once s p r e g (suc n) l
+          | no m ↦
+              (let l : room s < bytes p = omega arith in
+              let next : joined (queue (suc s)) (arrived (suc s)) ≡ kept (room s) p ++ (r ++ map whole (arrived (suc s))) =
+              rw (rests s p r e l) (append-assoc (kept (room s) p) r (map whole (arrived (suc s)))) in
+              let shift : s + suc n ≡ suc s + n = omega arith in
+              omega (
+                arith,
+                in-part s p r e g l,
+                ap (λ (x : ℕ). before gone g (suc x)) shift,
+                drained g n (suc s) (kept (room s) p) (r ++ map whole (arrived (suc s))) next
+                    (omega (
+                      arith,
+                      kept-bytes (room s) p,
+                      slower s p r e l,
+                      ap (λ (x : ℕ). sum extra (suc (suc x))) shift,
+                    )),
+              ))
+        ]
+
+    pub held-most :
+        (burst : ℕ) → Bursts rate block extra queue arrived burst →
+        (s : ℕ) → bytes (joined (queue s) (arrived s)) + block s ≤ burst
+    held-most burst rule s =
+        omega (
+          arith,
+          busy s burst 0 (λ a d e none.
+              omega (
+                arith,
+                rule a d none,
+                ap (λ (x : ℕ). before arrived sizeOf (suc x)) e,
+                ap (λ (x : ℕ). sum extra (suc x)) e,
+              )),
+        )
+
+    -- what is held in slot s, and what comes first, is no more than is sent by slot s + lag
+    pub passes :
+        (lag : ℕ) →
+        ((s : ℕ) → bytes (joined (queue s) (arrived s)) + block s + sum extra (suc (suc (s + lag))) ≤ rate * suc lag + sum extra (suc s)) →
+        Passes arrived gone lag
+    unfolding sum
+    passes lag enough =
+        record {
+          fair = λ g s. omega (arith, balance g s);
+          prompt = λ g s.
+              omega (
+                arith,
+                balance g s,
+                total-append (λ (x : Waiting). g (x .frame)) (queue s) (map whole (arrived s)),
+                weight-whole g (arrived s),
+                drained g lag s (joined (queue s) (arrived s)) [] (sym (append-nil (joined (queue s) (arrived s)))) (enough s),
+              );
+        }

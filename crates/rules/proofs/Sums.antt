@@ -54,8 +54,8 @@ sum-grows f a zero l = omega (arith, ap (λ (x : ℕ). sum f x) (a-zero l))
     a-zero l = omega arith
 sum-grows f a (suc b) l =
     elim (decLe a b) [
-      yes le ↦ omega (arith, sum-grows f a b le)
-    | no gt ↦ (let e : a ≡ suc b = omega arith in omega (arith, ap (λ (x : ℕ). sum f x) e))
+      | yes le ↦ omega (arith, sum-grows f a b le)
+      | no gt ↦ (let e : a ≡ suc b = omega arith in omega (arith, ap (λ (x : ℕ). sum f x) e))
     ]
 
 pub sum-has : (f : ℕ → ℕ) (n k : ℕ) → k < n → f k ≤ sum f n
@@ -70,12 +70,13 @@ sum-alone f n k l h = go n l
     before : (n : ℕ) → n ≤ k → sum f n ≡ 0
     before zero l = refl
     before (suc n) l = omega (arith, before n (omega arith), h n (omega arith))
+
     go : (n : ℕ) → k < n → sum f n ≡ f k
     go zero l = absurd (omega arith)
     go (suc n) l =
         elim (ℕ-discrete n k) [
-          yes e ↦ omega (arith, before n (omega arith), ap (λ (x : ℕ). f x) e)
-        | no d ↦ omega (arith, go n (omega arith), h n d)
+          | yes e ↦ omega (arith, before n (omega arith), ap (λ (x : ℕ). f x) e)
+          | no d ↦ omega (arith, go n (omega arith), h n d)
         ]
 
 module _ {A : Type 0} where
