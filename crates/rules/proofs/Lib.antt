@@ -8,6 +8,7 @@ pub mod Gaps
 pub mod Network
 pub mod OneReply
 pub mod Orders
+pub mod Played
 pub mod Prices
 pub mod Replies
 pub mod Routes
