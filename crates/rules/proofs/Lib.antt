@@ -16,3 +16,4 @@ pub mod Server
 pub mod SheetLaws
 pub mod Sound
 pub mod Sums
+pub mod Witnesses
