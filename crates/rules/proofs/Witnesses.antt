@@ -82,6 +82,11 @@ pub last-first-any : (slot w : ℕ) (fs : List Frame) → AnyOrder fs (last-firs
 last-first-any slot w fs =
     any-order-complete fs (backwards fs) (λ f. backwards-total (λ (x : Frame). only (same f x) 1) fs)
 
+-- what the computations below see through
+definitions : Unit {0}
+unfolding bit field sum total has test each lastBytes price hyperOf wiresOf channelsOf wireAt codeOf rateOf propOf roomOf framingAt payloadAt periodAt deadlineAt hopsAt routeAt channelAt endOf fillingOf headTests wireTests hopTests recordTests channelTests fillingTests readingTests loadOf load along jitter shareOf backlogAfter delayAfter delaysBelow backlog delay endToEnd figuresAt endAt sheetLength loadTest roomTest deadlineTest boundsTests judge listed lastFrame frames message ofChannel bornIn after source reaching dueFrom dueBelow due sent kept bytes lastWire goneBelow delivered arrivals step played periodic backwards
+definitions = tt
+
 -- Case A: wire 0 holds exactly its backlog, and the message takes exactly its end-to-end delay.
 abbrev pub caseA : List ℕ
 caseA = 0x00 ∷ 0x03 ∷ 0x48 ∷ 0x02 ∷ 0x02 ∷ 0x00 ∷ 0xe0 ∷ 0x00 ∷ 0x0a ∷ 0x80 ∷ 0x00 ∷ 0x10 ∷ 0x00 ∷ 0x05 ∷ 0x40 ∷ 0x00 ∷ 0x05 ∷ 0xb1 ∷ 0x00 ∷ []
@@ -90,21 +95,80 @@ abbrev pub runA : Run (viewOf caseA) (periodic (viewOf caseA))
 runA = played-run (viewOf caseA) (periodic (viewOf caseA)) in-turn in-turn-any
 
 pub a-accepted : judge caseA 12 ≡ granted (12 ∷ [])
-unfolding bit field sum total has test each lastBytes price hyperOf wiresOf channelsOf wireAt codeOf rateOf propOf roomOf framingAt payloadAt periodAt deadlineAt hopsAt routeAt channelAt endOf fillingOf headTests wireTests hopTests recordTests channelTests fillingTests readingTests loadOf load along jitter shareOf backlogAfter delayAfter delaysBelow backlog delay endToEnd figuresAt endAt sheetLength loadTest roomTest deadlineTest boundsTests judge
+unfolding definitions
 a-accepted = refl
 
 pub a-held : held runA 0 0 ≡ 84
-unfolding bit field total listed has lastBytes lastFrame frames hyperOf wiresOf channelsOf wireAt codeOf rateOf propOf framingAt payloadAt periodAt hopsAt routeAt channelAt message ofChannel bornIn after source reaching dueFrom dueBelow due sent kept bytes lastWire goneBelow delivered arrivals step played periodic backwards
+unfolding definitions
 a-held = refl
 
 pub a-message : message (viewOf caseA) (periodic (viewOf caseA)) 0 0 ≡ record { channel = 0; born = 0; size = 84 } ∷ []
-unfolding bit field total listed has lastBytes lastFrame frames hyperOf wiresOf channelsOf wireAt codeOf rateOf propOf framingAt payloadAt periodAt hopsAt routeAt channelAt message ofChannel bornIn after source reaching dueFrom dueBelow due sent kept bytes lastWire goneBelow delivered arrivals step played periodic backwards
+unfolding definitions
 a-message = refl
 
 pub a-early : delivered (viewOf caseA) (runA .gone) 0 0 90 ≡ []
-unfolding bit field total listed has lastBytes lastFrame frames hyperOf wiresOf channelsOf wireAt codeOf rateOf propOf framingAt payloadAt periodAt hopsAt routeAt channelAt message ofChannel bornIn after source reaching dueFrom dueBelow due sent kept bytes lastWire goneBelow delivered arrivals step played periodic backwards
+unfolding definitions
 a-early = refl
 
 pub a-there : delivered (viewOf caseA) (runA .gone) 0 0 91 ≡ message (viewOf caseA) (periodic (viewOf caseA)) 0 0
-unfolding bit field total listed has lastBytes lastFrame frames hyperOf wiresOf channelsOf wireAt codeOf rateOf propOf framingAt payloadAt periodAt hopsAt routeAt channelAt message ofChannel bornIn after source reaching dueFrom dueBelow due sent kept bytes lastWire goneBelow delivered arrivals step played periodic backwards
+unfolding definitions
 a-there = refl
+
+-- A later wire, with a jitter that counts: H 4; two wires of rate 100; channel 0 payload 1, period 2, route 0, 1; channel 1
+-- payload 71, period 4, route 0. Channel 1's frame goes first and holds channel 0's first back until its second is close
+-- behind, and overtakes it: wire 1 holds exactly its backlog, and the first message takes exactly its end-to-end delay.
+abbrev pub later : List ℕ
+later = 0x00 ∷ 0x00 ∷ 0x04 ∷ 0x04 ∷ 0x05 ∷ 0x00 ∷ 0x00 ∷ 0x00 ∷ 0x19 ∷ 0x30 ∷ 0x00 ∷ 0x00 ∷ 0x01 ∷ 0x50 ∷ 0x00 ∷ 0x01 ∷ 0x00 ∷ 0x00 ∷ 0x02 ∷ 0x00 ∷ 0x00 ∷ 0x05 ∷ 0x20 ∷ 0x01 ∷ 0x00 ∷ 0x23 ∷ 0x80 ∷ 0x00 ∷ 0x02 ∷ 0x00 ∷ 0x00 ∷ 0x01 ∷ 0x88 ∷ 0x00 ∷ []
+
+abbrev pub runLater : Run (viewOf later) (periodic (viewOf later))
+runLater = played-run (viewOf later) (periodic (viewOf later)) last-first last-first-any
+
+pub later-accepted : judge later 21 ≡ granted (21 ∷ [])
+unfolding definitions
+later-accepted = refl
+
+pub later-figures : (backlog (viewOf later) 1 ≡ 168) × (endToEnd (viewOf later) 0 ≡ 5)
+unfolding definitions
+later-figures = (refl, refl)
+
+pub later-held : held runLater 1 3 ≡ 168
+unfolding definitions
+later-held = refl
+
+pub later-message : message (viewOf later) (periodic (viewOf later)) 0 0 ≡ record { channel = 0; born = 0; size = 84 } ∷ []
+unfolding definitions
+later-message = refl
+
+pub later-early : delivered (viewOf later) (runLater .gone) 0 0 4 ≡ []
+unfolding definitions
+later-early = refl
+
+pub later-there : delivered (viewOf later) (runLater .gone) 0 0 5 ≡ message (viewOf later) (periodic (viewOf later)) 0 0
+unfolding definitions
+later-there = refl
+
+-- Two frames: H 100; two wires of rate 100; a channel of payload 1,493, period 100, route 0, 1. The message is there with its
+-- second frame, not with its first.
+abbrev pub twoFrames : List ℕ
+twoFrames = 0x00 ∷ 0x00 ∷ 0x64 ∷ 0x04 ∷ 0x03 ∷ 0x00 ∷ 0x00 ∷ 0x00 ∷ 0xca ∷ 0xd0 ∷ 0x00 ∷ 0x00 ∷ 0x0e ∷ 0xb2 ∷ 0x05 ∷ 0xd5 ∷ 0x00 ∷ 0x00 ∷ 0x64 ∷ 0x00 ∷ 0x00 ∷ 0x24 ∷ 0x20 ∷ 0x01 ∷ []
+
+abbrev pub runTwo : Run (viewOf twoFrames) (periodic (viewOf twoFrames))
+runTwo = played-run (viewOf twoFrames) (periodic (viewOf twoFrames)) in-turn in-turn-any
+
+pub two-accepted : judge twoFrames 18 ≡ granted (18 ∷ [])
+unfolding definitions
+two-accepted = refl
+
+pub two-message :
+    message (viewOf twoFrames) (periodic (viewOf twoFrames)) 0 0
+    ≡ record { channel = 0; born = 0; size = 1538 } ∷ record { channel = 0; born = 0; size = 84 } ∷ []
+unfolding definitions
+two-message = refl
+
+pub two-part : delivered (viewOf twoFrames) (runTwo .gone) 0 0 32 ≡ record { channel = 0; born = 0; size = 1538 } ∷ []
+unfolding definitions
+two-part = refl
+
+pub two-whole : delivered (viewOf twoFrames) (runTwo .gone) 0 0 33 ≡ message (viewOf twoFrames) (periodic (viewOf twoFrames)) 0 0
+unfolding definitions
+two-whole = refl
