@@ -1,16 +1,16 @@
 -- Laws of the figures: the delays that a wire's figures go by, and what a delay is enough for.
 use mathlib.Core.Path.{_≡_, refl, ap, sym, _∙_}
-use mathlib.Core.Bool.{true, cond}
-use mathlib.Core.List.{List, [], _∷_, _++_}
+use mathlib.Core.Bool.{true}
+use mathlib.Core.List.{[], _∷_, _++_}
 use Prim.Native.Nat.{ℕ, zero, suc, _+_, _-_, _*_, _/_, _≤_, _<_}
-use native.Mathlib.Nat.{add-zero, mul-le-mul-right, le-div-iff-mul-le, lt-div-mul-add}
-use native.Mathlib.Decide.{decLe, ℕ-discrete}
+use native.Mathlib.Nat.{mul-le-mul-right, le-div-iff-mul-le, lt-div-mul-add}
+use native.Mathlib.Decide.{ℕ-discrete}
 use native.Mathlib.Omega.{arith}
-use lib.ListN.{length, getD, length-append, List·getD-append}
+use lib.ListN.{length, length-append, List·getD-append}
 use lib.Seq.{getD-append-add}
-use Rattle.rules.specs.Words.{sum, only, has}
+use Rattle.rules.specs.Words.{sum}
 use Rattle.rules.specs.Table.{View}
-use Rattle.rules.specs.Bounds.{cost, times, on, along, jitter, shareOf, backlogAfter, delayAfter, delaysBelow, known, backlog, delay}
+use Rattle.rules.specs.Bounds.{cost, on, along, jitter, shareOf, backlogAfter, delayAfter, delaysBelow, known, backlog, delay}
 use Rattle.rules.proofs.Sound.{Sound, Climbs}
 use Rattle.rules.proofs.Sums.{sum-has}
 use Rattle.rules.proofs.Prices.{price-least}

@@ -1,26 +1,24 @@
 -- Demand 3 to the figures: no wire holds more than its backlog, and a message is whole by its channel's end-to-end delay.
-use mathlib.Core.Path.{_≡_, refl, ap, sym, _∙_}
-use mathlib.Core.Bool.{Bool, true, false, cond}
-use mathlib.Core.Logic.{_⊎_, inl, inr}
-use mathlib.Core.List.{List, [], _∷_, _++_, map}
+use mathlib.Core.Path.{_≡_, refl, ap, _∙_}
+use mathlib.Core.Logic.{inl, inr}
 use Prim.Native.Nat.{ℕ, zero, suc, _+_, _-_, _*_, _/_, _≤_, _<_}
 use native.Mathlib.Nat.{mul-le-mul-left, lt-div-mul-add, eq-zero-or-pos}
 use native.Mathlib.Decide.{decLe}
 use native.Mathlib.Omega.{arith}
-use Rattle.rules.specs.Words.{sum, total, only, has}
-use Rattle.rules.specs.Price.{price, lastBytes, frames}
+use Rattle.rules.specs.Words.{sum, total, only}
+use Rattle.rules.specs.Price.{price, lastBytes}
 use Rattle.rules.specs.Table.{View}
-use Rattle.rules.specs.Bounds.{cost, times, on, loadOf, load, along, jitter, shareOf, backlogAfter, known, backlog, delay, endToEnd}
-use Rattle.rules.specs.Machine.{Frame, Releases, Keeps, Run, AnyOrder, message, source, nowhere, dueFrom, held, Gone, lastWire, goneBelow, delivered, ofChannel, bornIn, bytes, joined}
-use Rattle.rules.proofs.Sound.{Sound, Climbs}
-use Rattle.rules.proofs.Sums.{sum-same, sum-le, sum-add, sum-scale, sum-none, sum-alone, sum-grows, total-append}
-use Rattle.rules.proofs.Orders.{same, any-order-complete}
+use Rattle.rules.specs.Bounds.{cost, times, on, loadOf, load, shareOf, backlogAfter, known, backlog, delay, endToEnd}
+use Rattle.rules.specs.Machine.{Frame, Releases, Keeps, Run, AnyOrder, message, dueFrom, held, Gone, lastWire, goneBelow, delivered, ofChannel}
+use Rattle.rules.proofs.Sound.{Sound}
+use Rattle.rules.proofs.Sums.{sum-le, sum-add, sum-scale, sum-none, sum-alone, sum-grows, total-append}
+use Rattle.rules.proofs.Orders.{bool-cases, same, any-order-complete}
 use Rattle.rules.proofs.Prices.{frames-price, price-grows}
 use Rattle.rules.proofs.Routes.{nowhere-off, last-there, last-total, route-same, along-add, climbs-below}
 use Rattle.rules.proofs.Gaps.{window-most}
 use Rattle.rules.proofs.Delays.{jitter-known, delay-enough, delay-least}
 use Rattle.rules.proofs.Server.{Server, Bursts, Passes, before, sizeOf}
-use Rattle.rules.proofs.Flow.{own, young, into, total-channel, total-born, total-message, message-young, message-other, none-into, came-sum, came-own, Flows, flows, window, longer, shortest}
+use Rattle.rules.proofs.Flow.{own, young, into, total-channel, total-born, total-message, message-young, message-other, none-into, came-sum, came-own, flows, window, longer, shortest}
 use Rattle.rules.proofs.Network.{every-wire, every-held}
 
 -- A message is priced by its payload.
@@ -65,10 +63,6 @@ module _ (t : View) (sound : Sound t) (released : Releases) (keeps : Keeps t rel
         ap (λ (x : ℕ). x * before (message t released k) sizeOf a) (sound .divides k lk),
         ap (λ (x : ℕ). cost t k * x) (sound .divides k lk),
       )
-
-bool-cases : (b : Bool) → (b ≡ true) ⊎ (b ≡ false)
-bool-cases true = inl refl
-bool-cases false = inr refl
 
 -- Rounding down at the end loses nothing: bytes are whole.
 divided : (h x y z : ℕ) → 1 ≤ h → h * x ≤ h * y + z → x ≤ y + z / h

@@ -1,5 +1,5 @@
 -- What comes at least a period apart, at most `most` each time, brings little in a window.
-use mathlib.Core.Path.{_≡_, refl, ap}
+use mathlib.Core.Path.{_≡_, ap}
 use Prim.Native.Nat.{ℕ, zero, suc, _+_, _*_, _≤_, _<_}
 use native.Mathlib.Nat.{add-zero, add-suc, mul-le-mul-left}
 use native.Mathlib.Decide.{decLe}

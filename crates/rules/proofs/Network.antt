@@ -1,5 +1,4 @@
 -- Wire by wire, ascending: where the burst rule of a wire follows from what the wires below it pass on, it holds of all.
-use mathlib.Core.Path.{_≡_, refl}
 use mathlib.Core.List.{List}
 use Prim.Native.Nat.{ℕ, suc, _+_, _*_, _≤_, _<_}
 use native.Mathlib.Omega.{arith}

@@ -1,10 +1,9 @@
 -- "In any order" is exactly equality of counts.
-use mathlib.Core.Path.{_≡_, refl, ap, sym, _∙_}
-use mathlib.Core.Bool.{Bool, true, false, cond, _&&_}
+use mathlib.Core.Path.{_≡_, refl}
+use mathlib.Core.Bool.{Bool, true, false, _&&_}
 use mathlib.Core.Logic.{_⊎_, inl, inr}
 use mathlib.Core.List.{List, [], _∷_}
-use Prim.Native.Nat.{ℕ, zero, suc, _+_, _≤_, _<_}
-use native.Mathlib.Decide.{ℕ-discrete}
+use Prim.Native.Nat.{ℕ, _+_, _<_}
 use native.Mathlib.Omega.{arith}
 use lib.Dec.{eqb}
 use borrow.Author.Tests.{eqb-true, eq-eqb}
@@ -19,7 +18,7 @@ same f x = eqb (f .channel) (x .channel) && (eqb (f .born) (x .born) && eqb (f .
 abbrev pub count : Frame → List Frame → ℕ
 count f xs = total (λ (x : Frame). only (same f x) 1) xs
 
-bool-cases : (b : Bool) → (b ≡ true) ⊎ (b ≡ false)
+pub bool-cases : (b : Bool) → (b ≡ true) ⊎ (b ≡ false)
 bool-cases true = inl refl
 bool-cases false = inr refl
 

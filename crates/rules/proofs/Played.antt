@@ -1,17 +1,15 @@
 -- The step function gives a run, for any releases and any order.
 use mathlib.Core.Path.{_≡_, refl, ap, sym, _∙_}
-use mathlib.Core.Bool.{true, false, cond}
 use mathlib.Core.List.{List, [], _∷_, _++_}
-use Prim.Native.Nat.{ℕ, zero, suc, _+_, _-_, _≤_, _<_}
+use Prim.Native.Nat.{ℕ, zero, suc, _+_, _-_, _<_}
 use native.Mathlib.Decide.{decLe, ℕ-discrete}
 use native.Mathlib.Omega.{arith}
-use lib.Dec.{leb}
-use lib.ListN.{length, getD, replicate, length-append, getD-replicate, List·getD-append}
+use lib.ListN.{length, getD, length-append, getD-replicate, List·getD-append}
 use lib.Seq.{getD-append-add}
 use borrow.Author.Tests.{le-leb, lt-leb}
 use Rattle.rules.specs.Words.{listed}
 use Rattle.rules.specs.Table.{View}
-use Rattle.rules.specs.Machine.{Frame, Waiting, Releases, Source, nowhere, release, wire, source, Gone, ofChannel, reaching, dueFrom, dueBelow, due, AnyOrder, sent, kept, joined, Run, Order, State, queueIn, goneIn, arrivals, step, played}
+use Rattle.rules.specs.Machine.{Frame, Waiting, Releases, Source, nowhere, release, wire, source, Gone, ofChannel, reaching, dueFrom, dueBelow, due, AnyOrder, sent, kept, joined, Run, Order, queueIn, goneIn, arrivals, step, played}
 
 length-listed : {A : Type 0} (f : ℕ → A) (n : ℕ) → length (listed f n) ≡ n
 unfolding listed
@@ -23,11 +21,11 @@ unfolding listed
 getD-listed f zero i d l = absurd (omega arith)
 getD-listed f (suc n) i d l =
     elim (ℕ-discrete i n) [
-      yes e ↦
-      (let at : i ≡ length (listed f n) + 0 = omega (arith, length-listed f n) in
-      ap (λ (x : ℕ). getD (listed f n ++ (f n ∷ [])) x d) at ∙ getD-append-add (listed f n) (f n ∷ []) 0 d ∙ ap f (sym e))
-    | no other ↦
-      List·getD-append (listed f n) (f n ∷ []) d i (omega (arith, length-listed f n)) ∙ getD-listed f n i d (omega arith)
+      | yes e ↦
+          (let at : i ≡ length (listed f n) + 0 = omega (arith, length-listed f n) in
+          ap (λ (x : ℕ). getD (listed f n ++ (f n ∷ [])) x d) at ∙ getD-append-add (listed f n) (f n ∷ []) 0 d ∙ ap f (sym e))
+      | no other ↦
+          List·getD-append (listed f n) (f n ∷ []) d i (omega (arith, length-listed f n)) ∙ getD-listed f n i d (omega arith)
     ]
 
 -- What is due in a slot reads only what was gone before it.
@@ -35,28 +33,28 @@ module _
     (t : View) (released : Releases) (one other : Gone) (slot : ℕ)
     (agree : (v earlier : ℕ) → earlier < slot → one v earlier ≡ other v earlier)
   where
-  reaching-same : (v : ℕ) → reaching t one v slot ≡ reaching t other v slot
-  unfolding reaching
-  reaching-same v =
-      elim (decLe (1 + t .prop v) slot) [
-        yes l ↦ rw (le-leb (1 + t .prop v) slot l) (agree v (slot - (1 + t .prop v)) (omega arith))
-      | no n ↦ rw (lt-leb (1 + t .prop v) slot (omega arith)) refl
-      ]
+    reaching-same : (v : ℕ) → reaching t one v slot ≡ reaching t other v slot
+    unfolding reaching
+    reaching-same v =
+        elim (decLe (1 + t .prop v) slot) [
+          | yes l ↦ rw (le-leb (1 + t .prop v) slot l) (agree v (slot - (1 + t .prop v)) (omega arith))
+          | no n ↦ rw (lt-leb (1 + t .prop v) slot (omega arith)) refl
+        ]
 
-  from-same : (src : Source) (k : ℕ) → dueFrom src t released one slot k ≡ dueFrom src t released other slot k
-  unfolding dueFrom
-  from-same nowhere k = refl
-  from-same release k = refl
-  from-same (wire v) k = ap (ofChannel k) (reaching-same v)
+    from-same : (src : Source) (k : ℕ) → dueFrom src t released one slot k ≡ dueFrom src t released other slot k
+    unfolding dueFrom
+    from-same nowhere k = refl
+    from-same release k = refl
+    from-same (wire v) k = ap (ofChannel k) (reaching-same v)
 
-  below-same : (w n : ℕ) → dueBelow t released one w slot n ≡ dueBelow t released other w slot n
-  unfolding dueBelow
-  below-same w zero = refl
-  below-same w (suc n) = rw (below-same w n, from-same (source (t .route n) w) n) refl
+    below-same : (w n : ℕ) → dueBelow t released one w slot n ≡ dueBelow t released other w slot n
+    unfolding dueBelow
+    below-same w zero = refl
+    below-same w (suc n) = rw (below-same w n, from-same (source (t .route n) w) n) refl
 
-  due-same : (w : ℕ) → due t released one w slot ≡ due t released other w slot
-  unfolding due
-  due-same w = below-same w (t .channels)
+    due-same : (w : ℕ) → due t released one w slot ≡ due t released other w slot
+    unfolding due
+    due-same w = below-same w (t .channels)
 
 module _ (t : View) (released : Releases) (order : Order) where
   -- what was gone in a slot, seen from right after it
@@ -69,12 +67,12 @@ module _ (t : View) (released : Releases) (order : Order) where
   seen-later zero v earlier l = absurd (omega arith)
   seen-later (suc slot) v earlier l =
       elim (ℕ-discrete earlier slot) [
-        yes e ↦
-        ap (λ (x : ℕ). goneIn (played t released order (suc slot)) (suc slot) v x) e ∙ ap (λ (x : ℕ). goneAt v x) (sym e)
-      | no d ↦
-        (let one-more : suc slot - suc earlier ≡ suc (slot - suc earlier) = omega arith in
-        ap (λ (i : ℕ). getD (getD (played t released order (suc slot) .past) i []) v []) one-more
-        ∙ seen-later slot v earlier (omega arith))
+        | yes e ↦
+            ap (λ (x : ℕ). goneIn (played t released order (suc slot)) (suc slot) v x) e ∙ ap (λ (x : ℕ). goneAt v x) (sym e)
+        | no d ↦
+            (let one-more : suc slot - suc earlier ≡ suc (slot - suc earlier) = omega arith in
+            ap (λ (i : ℕ). getD (getD (played t released order (suc slot) .past) i []) v []) one-more
+            ∙ seen-later slot v earlier (omega arith))
       ]
 
   -- what arrives, and what is then held

@@ -1,13 +1,11 @@
 -- One wire, over all slots. What it may send in a slot, what stands in the way and what goes first are parameters: nothing
 -- here says how a wire comes by them.
 use mathlib.Core.Path.{_≡_, refl, ap, sym, _∙_}
-use mathlib.Core.Bool.{Bool, true, false, cond}
 use mathlib.Core.List.{List, [], _∷_, _++_, map, append-assoc, append-nil}
 use Prim.Native.Nat.{ℕ, zero, suc, _+_, _-_, _*_, _≤_, _<_}
 use native.Mathlib.Nat.{add-zero}
 use native.Mathlib.Decide.{decLe}
 use native.Mathlib.Omega.{arith}
-use lib.Dec.{leb}
 use borrow.Author.Tests.{le-leb, lt-leb}
 use Rattle.rules.specs.Words.{sum, total}
 use Rattle.rules.specs.Machine.{Frame, Waiting, whole, sent, kept, bytes, joined}

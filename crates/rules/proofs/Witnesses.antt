@@ -1,22 +1,21 @@
 -- The promise is not empty: releases that keep their declaration without end, and runs that reach the figures.
-use mathlib.Core.Path.{_≡_, refl, ap, sym, _∙_}
-use mathlib.Core.Bool.{Bool, true, false, cond}
-use mathlib.Core.Logic.{_⊎_, inl, inr}
+use mathlib.Core.Path.{_≡_, refl}
+use mathlib.Core.Bool.{Bool, true, false}
 use mathlib.Core.List.{List, [], _∷_, _++_}
-use Prim.Native.Nat.{ℕ, zero, suc, _+_, _*_, _/_, _%_, _≤_, _<_}
+use Prim.Native.Nat.{ℕ, suc, _*_, _/_, _%_, _≤_, _<_}
 use native.Mathlib.Nat.{div-add-mod', mul-le-mul-right, mul-mod-left, suc-mul}
 use native.Mathlib.Decide.{decLe, ℕ-discrete}
 use native.Mathlib.Omega.{arith}
 use lib.Dec.{eqb}
 use borrow.Author.Tests.{eq-eqb, ne-eqb}
-use Rattle.bits.specs.Field.{bit, field, putBit, putField}
+use Rattle.bits.specs.Field.{bit, field}
 use Rattle.rules.specs.Words.{sum, total, listed, only, has}
 use Rattle.rules.specs.Replies.{granted, test, each}
 use Rattle.rules.specs.Price.{lastBytes, price, lastFrame, frames}
 use Rattle.rules.specs.Table.{View, viewOf, hyperOf, wiresOf, channelsOf, wireAt, codeOf, rateOf, propOf, roomOf, framingAt, payloadAt, periodAt, deadlineAt, hopsAt, routeAt, channelAt, endOf, fillingOf}
 use Rattle.rules.specs.Reading.{headTests, wireTests, hopTests, recordTests, channelTests, fillingTests, readingTests}
 use Rattle.rules.specs.Bounds.{loadOf, load, along, jitter, shareOf, backlogAfter, delayAfter, delaysBelow, backlog, delay, endToEnd}
-use Rattle.rules.specs.Sheet.{figuresAt, endAt, sheetLength, withHead, withWires, withChannels, sheetOf}
+use Rattle.rules.specs.Sheet.{figuresAt, endAt, sheetLength}
 use Rattle.rules.specs.Judgement.{loadTest, roomTest, deadlineTest, boundsTests, judge}
 use Rattle.rules.specs.Machine.{Frame, Releases, Keeps, message, ofChannel, bornIn, after, source, reaching, dueFrom, dueBelow, due, AnyOrder, none, more, here, sent, kept, bytes, Run, held, lastWire, goneBelow, delivered, Order, arrivals, step, played}
 use Rattle.rules.proofs.Sums.{total-append}
@@ -39,8 +38,8 @@ released-multiple : (t : View) (k r : ℕ) → 0 < periodic t k r → r / t .per
 unfolding periodic
 released-multiple t k r h =
     elim (ℕ-discrete (r % t .period k) 0) [
-      yes e ↦ omega (arith, div-add-mod' r (t .period k))
-    | no d ↦ absurd (omega (arith, rw (ne-eqb (r % t .period k) 0 d) at h))
+      | yes e ↦ omega (arith, div-add-mod' r (t .period k))
+      | no d ↦ absurd (omega (arith, rw (ne-eqb (r % t .period k) 0 d) at h))
     ]
 
 pub periodic-keeps : (t : View) → Keeps t (periodic t)
@@ -48,14 +47,14 @@ unfolding periodic
 periodic-keeps t =
     record {
       declared = λ k r lk. only-most (eqb (r % t .period k) 0) (t .payload k);
-      apart = λ k r later lk l x y. 
-        (let p = t .period k in
-        let first = released-multiple t k r x in
-        let second = released-multiple t k later y in
-        elim (decLe (suc (r / p)) (later / p)) [
-          yes fine ↦ omega (arith, mul-le-mul-right p fine, suc-mul (r / p) p)
-        | no n ↦ absurd (omega (arith, mul-le-mul-right {m = later / p} {n = r / p} p (omega arith)))
-        ]);
+      apart = λ k r later lk l x y.
+          (let p = t .period k in
+          let first = released-multiple t k r x in
+          let second = released-multiple t k later y in
+          elim (decLe (suc (r / p)) (later / p)) [
+            | yes fine ↦ omega (arith, mul-le-mul-right p fine, suc-mul (r / p) p)
+            | no n ↦ absurd (omega (arith, mul-le-mul-right {m = later / p} {n = r / p} p (omega arith)))
+          ]);
     }
 
 -- Two orders: as they are due, and the last first.
