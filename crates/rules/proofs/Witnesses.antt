@@ -146,10 +146,10 @@ pub later-there : delivered (viewOf later) (runLater .gone) 0 0 5 ≡ message (v
 unfolding definitions
 later-there = refl
 
--- Two frames: H 100; two wires of rate 100; a channel of payload 1,493, period 100, route 0, 1. The message is there with its
--- second frame, not with its first.
+-- Two frames: H 100; two wires of rate 100, propagation 3 and 5; a channel of payload 1,493, period 100, route 0, 1. The
+-- message is there with its second frame, not with its first.
 abbrev pub twoFrames : List ℕ
-twoFrames = 0x00 ∷ 0x00 ∷ 0x64 ∷ 0x04 ∷ 0x03 ∷ 0x00 ∷ 0x00 ∷ 0x00 ∷ 0xca ∷ 0xd0 ∷ 0x00 ∷ 0x00 ∷ 0x0e ∷ 0xb2 ∷ 0x05 ∷ 0xd5 ∷ 0x00 ∷ 0x00 ∷ 0x64 ∷ 0x00 ∷ 0x00 ∷ 0x24 ∷ 0x20 ∷ 0x01 ∷ []
+twoFrames = 0x00 ∷ 0x00 ∷ 0x64 ∷ 0x04 ∷ 0x03 ∷ 0x00 ∷ 0x60 ∷ 0x00 ∷ 0xca ∷ 0xd0 ∷ 0x0a ∷ 0x00 ∷ 0x0e ∷ 0xb2 ∷ 0x05 ∷ 0xd5 ∷ 0x00 ∷ 0x00 ∷ 0x64 ∷ 0x00 ∷ 0x00 ∷ 0x2c ∷ 0x20 ∷ 0x01 ∷ []
 
 abbrev pub runTwo : Run (viewOf twoFrames) (periodic (viewOf twoFrames))
 runTwo = played-run (viewOf twoFrames) (periodic (viewOf twoFrames)) in-turn in-turn-any
@@ -164,10 +164,10 @@ pub two-message :
 unfolding definitions
 two-message = refl
 
-pub two-part : delivered (viewOf twoFrames) (runTwo .gone) 0 0 32 ≡ record { channel = 0; born = 0; size = 1538 } ∷ []
+pub two-part : delivered (viewOf twoFrames) (runTwo .gone) 0 0 40 ≡ record { channel = 0; born = 0; size = 1538 } ∷ []
 unfolding definitions
 two-part = refl
 
-pub two-whole : delivered (viewOf twoFrames) (runTwo .gone) 0 0 33 ≡ message (viewOf twoFrames) (periodic (viewOf twoFrames)) 0 0
+pub two-whole : delivered (viewOf twoFrames) (runTwo .gone) 0 0 41 ≡ message (viewOf twoFrames) (periodic (viewOf twoFrames)) 0 0
 unfolding definitions
 two-whole = refl
