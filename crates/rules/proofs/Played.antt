@@ -1,9 +1,11 @@
 -- The step function gives a run, for any releases and any order.
 use mathlib.Core.Path.{_≡_, refl, ap, sym, _∙_}
+use mathlib.Core.Bool.{cond}
 use mathlib.Core.List.{List, [], _∷_, _++_}
 use Prim.Native.Nat.{ℕ, zero, suc, _+_, _-_, _<_}
 use native.Mathlib.Decide.{decLe, ℕ-discrete}
 use native.Mathlib.Omega.{arith}
+use lib.Dec.{leb}
 use lib.ListN.{length, getD, length-append, getD-replicate, List·getD-append}
 use lib.Seq.{getD-append-add}
 use borrow.Author.Tests.{le-leb, lt-leb}
@@ -33,13 +35,17 @@ module _
     (t : View) (released : Releases) (one other : Gone) (slot : ℕ)
     (agree : (v earlier : ℕ) → earlier < slot → one v earlier ≡ other v earlier)
   where
+    ago : (later v : ℕ) → 0 < later →
+        cond (leb later slot) (one v (slot - later)) [] ≡ cond (leb later slot) (other v (slot - later)) []
+    ago later v some =
+        elim (decLe later slot) [
+          | yes l ↦ rw (le-leb later slot l) (agree v (slot - later) (omega arith))
+          | no n ↦ rw (lt-leb later slot (omega arith)) refl
+        ]
+
     reaching-same : (v : ℕ) → reaching t one v slot ≡ reaching t other v slot
     unfolding reaching
-    reaching-same v =
-        elim (decLe (1 + t .prop v) slot) [
-          | yes l ↦ rw (le-leb (1 + t .prop v) slot l) (agree v (slot - (1 + t .prop v)) (omega arith))
-          | no n ↦ rw (lt-leb (1 + t .prop v) slot (omega arith)) refl
-        ]
+    reaching-same v = ago _ v (omega arith)
 
     from-same : (src : Source) (k : ℕ) → dueFrom src t released one slot k ≡ dueFrom src t released other slot k
     unfolding dueFrom
