@@ -12,6 +12,7 @@ pub mod OneReply
 pub mod Orders
 pub mod Played
 pub mod Prices
+pub mod Promised
 pub mod ReadingLaws
 pub mod Replies
 pub mod Routes
