@@ -19,7 +19,7 @@ use Rattle.rules.proofs.Gaps.{window-most}
 use Rattle.rules.proofs.Delays.{jitter-known, delay-enough, delay-least}
 use Rattle.rules.proofs.Server.{Server, Bursts, Passes, before, sizeOf}
 use Rattle.rules.proofs.Flow.{own, young, into, total-channel, total-born, total-message, message-young, message-other, none-into, came-sum, came-own, flows, window, longer, shortest}
-use Rattle.rules.proofs.Network.{every-wire, every-held}
+use Rattle.rules.proofs.Network.{network}
 
 -- A message is priced by its payload.
 message-size : (t : View) (released : Releases) (k r : ℕ) → total sizeOf (message t released k r) ≡ price (t .framing k) (released k r)
@@ -195,12 +195,13 @@ module _
           mul-le-mul-left {m = delay t w} {n = suc (lagOf t w)} (t .rate w) (omega arith),
         )
 
-    passing : (w : ℕ) → w < t .wires → Passes (run .arrived w) (run .gone w) (lagOf t w)
-    passing = every-wire (t .wires) (t .rate) (λ w s. t .rate w) (λ w s. 0) (λ w s. 0) (run .queue) (run .arrived) (run .gone) base (backlog t) (lagOf t) burst-rule enough
+    wired : (w : ℕ) → w < t .wires → Passes (run .arrived w) (run .gone w) (lagOf t w) × ((s : ℕ) → held run w s + 0 ≤ backlog t w)
+    wired =
+        network (t .wires) (t .rate) (λ w s. t .rate w) (λ w s. 0) (λ w s. 0) (run .queue) (run .arrived) (run .gone) base
+        (backlog t) (lagOf t) burst-rule enough
 
     pub backlog-holds : (w slot : ℕ) → w < t .wires → held run w slot ≤ backlog t w
-    backlog-holds w slot l =
-        omega (arith, every-held (t .wires) (t .rate) (λ w s. t .rate w) (λ w s. 0) (λ w s. 0) (run .queue) (run .arrived) (run .gone) base (backlog t) (lagOf t) burst-rule enough w l slot)
+    backlog-holds w slot l = omega (arith, wired w l .1 slot)
 
     -- the time over the whole route
     end-to-end :
@@ -229,8 +230,8 @@ module _
           let c = sound .climbs k lk in
           let there = last-there xs (sound .hops-least k lk) in
           let lz = climbs-below (t .wires) 0 z xs c there in
-          let flow = flows t released (run .arrived) (run .gone) (run .any-order) (lagOf t) k lk c z (λ v below lv. passing v lv) there in
-          let passes = passing z lz in
+          let flow = flows t released (run .arrived) (run .gone) (run .any-order) (lagOf t) k lk c z (λ v below lv. wired v lv .0) there in
+          let passes = wired z lz .0 in
           let n = slot - t .prop z in
           let onto = r + (shortest t z k + longer t (lagOf t) z k) in
           let came : suc r + (shortest t z k + longer t (lagOf t) z k) ≡ suc onto = omega arith in

@@ -18,13 +18,12 @@ module _
     (w s : ℕ) → w < wires →
     burst w + sum (extra w) (suc (suc (s + lag w))) ≤ rate w * suc (lag w) + sum (extra w) (suc s))
   where
-    pub every-wire : (w : ℕ) → w < wires → Passes (arrived w) (gone w) (lag w)
-    every-wire =
-        ascend (λ (w : ℕ). w < wires → Passes (arrived w) (gone w) (lag w)) (λ w below l.
-        let most = held-most (rate w) (room w) (block w) (extra w) (queue w) (arrived w) (gone w) (server w l) (burst w) (rule w l below) in
-        passes (rate w) (room w) (block w) (extra w) (queue w) (arrived w) (gone w) (server w l) (lag w) (λ s. omega (arith, most s, enough w s l)))
-
-    pub every-held : (w : ℕ) → w < wires → (s : ℕ) → bytes (joined (queue w s) (arrived w s)) + block w s ≤ burst w
-    every-held w l =
-        held-most (rate w) (room w) (block w) (extra w) (queue w) (arrived w) (gone w) (server w l) (burst w)
-        (rule w l (λ v below lv. every-wire v lv))
+    pub network :
+        (w : ℕ) → w < wires →
+        Passes (arrived w) (gone w) (lag w) × ((s : ℕ) → bytes (joined (queue w s) (arrived w s)) + block w s ≤ burst w)
+    network =
+        ascend (λ (w : ℕ). w < wires → Passes (arrived w) (gone w) (lag w) × ((s : ℕ) → bytes (joined (queue w s) (arrived w s)) + block w s ≤ burst w)) (λ w below l.
+        let most = held-most (rate w) (room w) (block w) (extra w) (queue w) (arrived w) (gone w) (server w l) (burst w) (rule w l (λ v less lv. below v less lv .0)) in (
+          passes (rate w) (room w) (block w) (extra w) (queue w) (arrived w) (gone w) (server w l) (lag w) (λ s. omega (arith, most s, enough w s l)),
+          most,
+        ))
