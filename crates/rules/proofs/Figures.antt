@@ -9,7 +9,7 @@ use Rattle.rules.specs.Words.{sum, total, only}
 use Rattle.rules.specs.Price.{price, lastBytes}
 use Rattle.rules.specs.Table.{View}
 use Rattle.rules.specs.Bounds.{cost, times, on, loadOf, load, shareOf, backlogAfter, known, backlog, delay, endToEnd}
-use Rattle.rules.specs.Machine.{Frame, Releases, Keeps, Run, AnyOrder, message, dueFrom, held, Gone, lastWire, goneBelow, delivered, ofChannel}
+use Rattle.rules.specs.Machine.{Frame, Releases, Keeps, Run, AnyOrder, message, held, Gone, lastWire, goneBelow, delivered, ofChannel}
 use Rattle.rules.proofs.Sound.{Sound}
 use Rattle.rules.proofs.Sums.{sum-le, sum-add, sum-scale, sum-none, sum-alone, sum-grows, total-append}
 use Rattle.rules.proofs.Orders.{bool-cases, same, any-order-complete}
@@ -120,7 +120,7 @@ module _
             (k : ℕ) → k < t .channels → (a d : ℕ) →
             t .hyper * before (into t released (run .gone) w k) sizeOf (suc (a + d))
             ≤ t .hyper * before (into t released (run .gone) w k) sizeOf a + (shareOf t (known t w) w k + d * loadOf t w k)
-        unfolding shareOf loadOf dueFrom total
+        unfolding shareOf loadOf
         share-most k lk a d =
             elim (bool-cases (on t w k)) [
               | inl there ↦
@@ -128,7 +128,6 @@ module _
                   let flow = flows t released (run .arrived) (run .gone) (run .any-order) (lagOf t) k lk (sound .climbs k lk) w below there in
                   let seen = window t released (run .arrived) (lagOf t) w k flow sizeOf a d in
                   let start = seen .0 in
-                  let end = suc (start + (d + longer t (lagOf t) w k)) in
                   rw (there, jitter-known t w k (sound .climbs k lk) there)
                   (omega (
                     arith,
