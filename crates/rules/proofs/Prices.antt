@@ -16,6 +16,7 @@ use Rattle.rules.specs.Words.{total}
 use Rattle.rules.specs.Numbers.{payloadMost}
 use Rattle.rules.specs.Replies.{Reply, granted, refused, test}
 use Rattle.rules.specs.Price.{rowOf, fullFrame, smallFrame, lastBytes, price, lastFrame, frames, askPrice}
+use Rattle.rules.proofs.Sums.{total-append}
 
 -- what both rows have in common
 pub record Fair (row : Row) : Type 0 where
@@ -117,11 +118,6 @@ total-replicate : (n x : ℕ) → total (λ (y : ℕ). y) (replicate n x) ≡ n 
 unfolding total
 total-replicate zero x = sym (zero-mul x)
 total-replicate (suc n) x = omega (arith, total-replicate n x, suc-mul n x)
-
-pub total-append : {A : Type 0} (f : A → ℕ) (xs ys : List A) → total f (xs ++ ys) ≡ total f xs + total f ys
-unfolding total
-total-append f [] ys = omega arith
-total-append f (x ∷ xs) ys = omega (arith, total-append f xs ys)
 
 total-last : (row : Row) (rest : ℕ) → total (λ (y : ℕ). y) (lastFrame row rest) ≡ lastBytes row rest
 unfolding total lastFrame

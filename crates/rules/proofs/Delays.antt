@@ -1,0 +1,62 @@
+-- Laws of the figures: the delays that a wire's figures go by, and what a delay is enough for.
+use mathlib.Core.Path.{_≡_, refl, ap, sym, _∙_}
+use mathlib.Core.Bool.{true}
+use mathlib.Core.List.{[], _∷_, _++_}
+use Prim.Native.Nat.{ℕ, zero, suc, _+_, _-_, _*_, _/_, _≤_, _<_}
+use native.Mathlib.Nat.{mul-le-mul-right, le-div-iff-mul-le, lt-div-mul-add}
+use native.Mathlib.Decide.{ℕ-discrete}
+use native.Mathlib.Omega.{arith}
+use lib.ListN.{length, length-append, List·getD-append}
+use lib.Seq.{getD-append-add}
+use Rattle.rules.specs.Words.{sum}
+use Rattle.rules.specs.Table.{View}
+use Rattle.rules.specs.Bounds.{cost, on, along, jitter, shareOf, backlogAfter, delayAfter, delaysBelow, known, backlog, delay}
+use Rattle.rules.proofs.Sound.{Sound, Climbs}
+use Rattle.rules.proofs.Sums.{sum-has}
+use Rattle.rules.proofs.Prices.{price-least}
+use Rattle.rules.proofs.Routes.{along-same}
+
+delays-length : (t : View) (w : ℕ) → length (delaysBelow t w) ≡ w
+unfolding delaysBelow
+delays-length t zero = refl
+delays-length t (suc w) = rw length-append (omega (arith, delays-length t w))
+
+next-delay : (t : View) (w : ℕ) → delaysBelow t (suc w) ≡ delaysBelow t w ++ (delay t w ∷ [])
+unfolding delaysBelow delay
+next-delay t w = refl
+
+-- the delays below w are the delays
+pub known-delay : (t : View) (w v : ℕ) → v < w → known t w v ≡ delay t v
+known-delay t zero v l = absurd (omega arith)
+known-delay t (suc w) v l =
+    elim (ℕ-discrete v w) [
+      | yes e ↦
+          (let at : v ≡ length (delaysBelow t w) + 0 = omega (arith, delays-length t w) in
+          rw (next-delay t w, at) (getD-append-add (delaysBelow t w) (delay t w ∷ []) 0 0 ∙ ap (delay t) (sym e ∙ at)))
+      | no d ↦
+          (let below : v < length (delaysBelow t w) = omega (arith, delays-length t w) in
+          rw (next-delay t w) (List·getD-append (delaysBelow t w) (delay t w ∷ []) 0 v below ∙ known-delay t w v (omega arith)))
+    ]
+
+-- so the jitter is the sum of the delays before, each less 1
+pub jitter-known :
+    (t : View) (w k : ℕ) → Climbs (t .wires) 0 (t .route k) → on t w k ≡ true →
+    jitter t (known t w) w k ≡ along (λ v. delay t v - 1) (t .route k) w
+unfolding jitter
+jitter-known t w k c there =
+    along-same _ _ (t .wires) 0 w (t .route k) c there (λ v l. ap (λ (x : ℕ). x - 1) (known-delay t w v l))
+
+-- in its delay a wire sends its backlog
+pub delay-enough : (t : View) (w : ℕ) → 1 ≤ t .rate w → backlog t w ≤ t .rate w * delay t w
+unfolding backlog delay delayAfter
+delay-enough t w l = omega (arith, lt-div-mul-add {a = backlogAfter t (known t w) w + (t .rate w - 1)} {b = t .rate w} l)
+
+-- a wire that a route uses has a delay
+pub delay-least : (t : View) → Sound t → (w k : ℕ) → w < t .wires → k < t .channels → on t w k ≡ true → 1 ≤ delay t w
+unfolding delay delayAfter backlogAfter shareOf
+delay-least t sound w k lw lk there =
+    let shares = sum (shareOf t (known t w) w) (t .channels) in
+    let share : cost t k * t .hyper ≤ shareOf t (known t w) w k = rw there (omega arith) in
+    let dear : 84 * t .hyper ≤ cost t k * t .hyper = mul-le-mul-right (t .hyper) (price-least (t .framing k) (t .payload k) (sound .framing-most k lk) (sound .payload-least k lk)) in
+    let some : 1 ≤ shares / t .hyper = le-div-iff-mul-le (sound .hyper-least) .1 (omega (arith, sum-has (shareOf t (known t w) w) (t .channels) k lk)) in
+    le-div-iff-mul-le (sound .rate-least w lw) .1 (omega (arith, sound .rate-least w lw))

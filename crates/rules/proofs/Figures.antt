@@ -1,0 +1,253 @@
+-- Demand 3 to the figures: no wire holds more than its backlog, and a message is whole by its channel's end-to-end delay.
+use mathlib.Core.Path.{_≡_, refl, ap, _∙_}
+use mathlib.Core.Logic.{inl, inr}
+use Prim.Native.Nat.{ℕ, zero, suc, _+_, _-_, _*_, _/_, _≤_, _<_}
+use native.Mathlib.Nat.{mul-le-mul-left, lt-div-mul-add, eq-zero-or-pos}
+use native.Mathlib.Decide.{decLe}
+use native.Mathlib.Omega.{arith}
+use Rattle.rules.specs.Words.{sum, total, only}
+use Rattle.rules.specs.Price.{price, lastBytes}
+use Rattle.rules.specs.Table.{View}
+use Rattle.rules.specs.Bounds.{cost, times, on, loadOf, load, shareOf, backlogAfter, known, backlog, delay, endToEnd}
+use Rattle.rules.specs.Machine.{Frame, Releases, Keeps, Run, AnyOrder, message, held, Gone, lastWire, goneBelow, delivered, ofChannel}
+use Rattle.rules.proofs.Sound.{Sound}
+use Rattle.rules.proofs.Sums.{sum-le, sum-add, sum-scale, sum-none, sum-alone, sum-grows, total-append}
+use Rattle.rules.proofs.Orders.{bool-cases, same, any-order-complete}
+use Rattle.rules.proofs.Prices.{frames-price, price-grows}
+use Rattle.rules.proofs.Routes.{nowhere-off, last-there, last-total, route-same, along-add, climbs-below}
+use Rattle.rules.proofs.Gaps.{window-most}
+use Rattle.rules.proofs.Delays.{jitter-known, delay-enough, delay-least}
+use Rattle.rules.proofs.Server.{Server, Bursts, Passes, before, sizeOf}
+use Rattle.rules.proofs.Flow.{own, young, into, total-channel, total-born, total-message, message-young, message-other, none-into, came-sum, came-own, flows, window, longer, shortest}
+use Rattle.rules.proofs.Network.{network}
+
+-- A message is priced by its payload.
+message-size : (t : View) (released : Releases) (k r : ℕ) → total sizeOf (message t released k r) ≡ price (t .framing k) (released k r)
+message-size t released k r = total-message t released k r sizeOf ∙ frames-price (t .framing k) (released k r)
+
+price-none : (framing : ℕ) → framing ≤ 1 → price framing 0 ≡ 0
+unfolding price lastBytes
+price-none zero h = refl
+price-none (suc zero) h = refl
+price-none (suc (suc n)) h = absurd (omega arith)
+
+module _ (t : View) (sound : Sound t) (released : Releases) (keeps : Keeps t released) (k : ℕ) (lk : k < t .channels) where
+  message-most : (r : ℕ) → total sizeOf (message t released k r) ≤ cost t k
+  message-most r =
+      omega (
+        arith,
+        message-size t released k r,
+        price-grows (t .framing k) (sound .framing-most k lk) (released k r) (t .payload k) (keeps .declared k r lk),
+      )
+
+  some-released : (r : ℕ) → 0 < total sizeOf (message t released k r) → 0 < released k r
+  some-released r h =
+      elim (eq-zero-or-pos (released k r)) [
+        | inl e ↦ absurd (omega (arith, message-size t released k r, ap (price (t .framing k)) e, price-none (t .framing k) (sound .framing-most k lk)))
+        | inr some ↦ some
+      ]
+
+  -- A channel's releases in slot a and n further slots: C + C × n / P, times H.
+  releases-most :
+      (a n : ℕ) →
+      t .hyper * before (message t released k) sizeOf (suc (a + n))
+      ≤ t .hyper * before (message t released k) sizeOf a + (cost t k * t .hyper + cost t k * times t k * n)
+  releases-most a n =
+      let most =
+      window-most (λ (r : ℕ). total sizeOf (message t released k r)) (cost t k) (t .period k) message-most
+      (λ r later l x y. keeps .apart k r later lk l (some-released r x) (some-released later y)) a n in
+      omega (
+        arith,
+        mul-le-mul-left (times t k) most,
+        ap (λ (x : ℕ). x * before (message t released k) sizeOf (suc (a + n))) (sound .divides k lk),
+        ap (λ (x : ℕ). x * before (message t released k) sizeOf a) (sound .divides k lk),
+        ap (λ (x : ℕ). cost t k * x) (sound .divides k lk),
+      )
+
+-- Rounding down at the end loses nothing: bytes are whole.
+divided : (h x y z : ℕ) → 1 ≤ h → h * x ≤ h * y + z → x ≤ y + z / h
+divided h x y z l le =
+    elim (decLe x (y + z / h)) [
+      | yes fine ↦ fine
+      | no more ↦ absurd (omega (arith, lt-div-mul-add {a = z} {b = h} l, mul-le-mul-left {m = suc (y + z / h)} {n = x} h (omega arith)))
+    ]
+
+-- What has reached the destination is what has left the last wire.
+total-gone : (gone : Gone) (v : ℕ) (g : Frame → ℕ) (n : ℕ) → total g (goneBelow gone v n) ≡ before (gone v) g n
+unfolding goneBelow sum total
+total-gone gone v g zero = refl
+total-gone gone v g (suc n) = omega (arith, total-append g (goneBelow gone v n) (gone v n), total-gone gone v g n)
+
+total-delivered :
+    (t : View) (gone : Gone) (k r slot : ℕ) (g : Frame → ℕ) →
+    total g (delivered t gone k r slot)
+    ≡ before (gone (lastWire (t .route k))) (own k (young r g)) (slot - t .prop (lastWire (t .route k)))
+unfolding delivered
+total-delivered t gone k r slot g =
+    let z = lastWire (t .route k) in
+    let left = goneBelow gone z (slot - t .prop z) in
+    total-born g r (ofChannel k left) ∙ total-channel (young r g) k left ∙ total-gone gone z (own k (young r g)) (slot - t .prop z)
+
+-- Of one message's weight, all is released in its slot.
+module _ (t : View) (released : Releases) (k r : ℕ) (g : Frame → ℕ) where
+  released-by : (n : ℕ) → r < n → before (message t released k) (young r g) n ≡ total g (message t released k r)
+  released-by n l =
+      sum-alone (λ (s : ℕ). total (young r g) (message t released k s)) n r l (λ s other. message-other t released k s g r other)
+      ∙ message-young t released k r g
+
+  released-most : (n : ℕ) → before (message t released k) (young r g) n ≤ total g (message t released k r)
+  released-most n =
+      omega (
+        arith,
+        sum-grows (λ (s : ℕ). total (young r g) (message t released k s)) n (n + suc r) (omega arith),
+        released-by (n + suc r) (omega arith),
+      )
+
+-- what a wire may add to the time that a frame takes
+abbrev lagOf : View → ℕ → ℕ
+lagOf t v = delay t v - 1
+
+module _
+    (t : View) (sound : Sound t) (fits : (w : ℕ) → w < t .wires → load t w ≤ t .rate w * t .hyper)
+    (released : Releases) (keeps : Keeps t released) (run : Run t released)
+  where
+    -- A channel's share of what comes to a wire in slot a and d further slots, times H.
+    module _
+        (w : ℕ) (lw : w < t .wires)
+        (below : (v : ℕ) → v < w → v < t .wires → Passes (run .arrived v) (run .gone v) (lagOf t v))
+      where
+        share-most :
+            (k : ℕ) → k < t .channels → (a d : ℕ) →
+            t .hyper * before (into t released (run .gone) w k) sizeOf (suc (a + d))
+            ≤ t .hyper * before (into t released (run .gone) w k) sizeOf a + (shareOf t (known t w) w k + d * loadOf t w k)
+        unfolding shareOf loadOf
+        share-most k lk a d =
+            elim (bool-cases (on t w k)) [
+              | inl there ↦
+                  (let own-came = came-own t released (run .arrived) (run .gone) (run .any-order) w lw k lk sizeOf in
+                  let flow = flows t released (run .arrived) (run .gone) (run .any-order) (lagOf t) k lk (sound .climbs k lk) w below there in
+                  let seen = window t released (run .arrived) (lagOf t) w k flow sizeOf a d in
+                  let start = seen .0 in
+                  rw (there, jitter-known t w k (sound .climbs k lk) there)
+                  (omega (
+                    arith,
+                    ap (λ (x : ℕ). t .hyper * x) (own-came a),
+                    ap (λ (x : ℕ). t .hyper * x) (own-came (suc (a + d))),
+                    mul-le-mul-left (t .hyper) (seen .1),
+                    mul-le-mul-left (t .hyper) (seen .2),
+                    releases-most t sound released keeps k lk start (d + longer t (lagOf t) w k),
+                  )))
+              | inr off ↦
+                  (let none = none-into t released (run .gone) w k (nowhere-off w (t .route k) off) sizeOf (suc (a + d)) in
+                  omega (arith, ap (λ (x : ℕ). t .hyper * x) none))
+            ]
+
+        -- All shares together: the burst rule, with the backlog for burst.
+        shares-most :
+            (a d : ℕ) →
+            t .hyper * before (run .arrived w) sizeOf (suc (a + d))
+            ≤ t .hyper * before (run .arrived w) sizeOf a + (sum (shareOf t (known t w) w) (t .channels) + d * load t w)
+        unfolding load
+        shares-most a d =
+            let came = came-sum t released (run .arrived) (run .gone) (run .any-order) w lw sizeOf in
+            let from : ℕ → ℕ → ℕ = λ n k. before (into t released (run .gone) w k) sizeOf n in
+            let rest : ℕ → ℕ = λ k. shareOf t (known t w) w k + d * loadOf t w k in
+            omega (
+              arith,
+              ap (λ (x : ℕ). t .hyper * x) (came a),
+              ap (λ (x : ℕ). t .hyper * x) (came (suc (a + d))),
+              sum-scale (t .hyper) (from a) (t .channels),
+              sum-scale (t .hyper) (from (suc (a + d))) (t .channels),
+              sum-le (λ k. t .hyper * from (suc (a + d)) k) (λ k. t .hyper * from a k + rest k) (t .channels) (λ k lk. share-most k lk a d),
+              sum-add (λ k. t .hyper * from a k) rest (t .channels),
+              sum-add (shareOf t (known t w) w) (λ k. d * loadOf t w k) (t .channels),
+              sum-scale d (loadOf t w) (t .channels),
+            )
+
+        burst-rule : Bursts (t .rate w) (λ s. 0) (λ s. 0) (run .queue w) (run .arrived w) (backlog t w)
+        unfolding backlog backlogAfter
+        burst-rule a d none =
+            let x = before (run .arrived w) sizeOf (suc (a + d)) in
+            let y = before (run .arrived w) sizeOf a + t .rate w * d in
+            let shares = sum (shareOf t (known t w) w) (t .channels) in
+            let most : x ≤ y + shares / t .hyper =
+            divided (t .hyper) x y shares (sound .hyper-least) (omega (arith, shares-most a d, mul-le-mul-left d (fits w lw))) in
+            omega (arith, most, sum-none (suc (a + d)))
+
+    base : (w : ℕ) → w < t .wires → Server (t .rate w) (λ s. t .rate w) (λ s. 0) (λ s. 0) (run .queue w) (run .arrived w) (run .gone w)
+    base w l =
+        record {
+          empty = run .empty w l;
+          sends = λ s. run .sends w s l;
+          keeps = λ s. run .keeps w s l;
+          serves = λ s more. omega arith;
+        }
+
+    enough :
+        (w s : ℕ) → w < t .wires →
+        backlog t w + sum (λ s. 0) (suc (suc (s + lagOf t w))) ≤ t .rate w * suc (lagOf t w) + sum (λ s. 0) (suc s)
+    enough w s l =
+        omega (
+          arith,
+          sum-none (suc (suc (s + lagOf t w))),
+          delay-enough t w (sound .rate-least w l),
+          mul-le-mul-left {m = delay t w} {n = suc (lagOf t w)} (t .rate w) (omega arith),
+        )
+
+    wired : (w : ℕ) → w < t .wires → Passes (run .arrived w) (run .gone w) (lagOf t w) × ((s : ℕ) → held run w s + 0 ≤ backlog t w)
+    wired =
+        network (t .wires) (t .rate) (λ w s. t .rate w) (λ w s. 0) (λ w s. 0) (run .queue) (run .arrived) (run .gone) base
+        (backlog t) (lagOf t) burst-rule enough
+
+    pub backlog-holds : (w slot : ℕ) → w < t .wires → held run w slot ≤ backlog t w
+    backlog-holds w slot l = omega (arith, wired w l .1 slot)
+
+    -- the time over the whole route
+    end-to-end :
+        (k : ℕ) → k < t .channels →
+        let z = lastWire (t .route k) in
+        endToEnd t k ≡ suc (shortest t z k + longer t (lagOf t) z k + lagOf t z + t .prop z)
+    unfolding endToEnd
+    end-to-end k lk =
+        let c = sound .climbs k lk in
+        let xs = t .route k in
+        let z = lastWire xs in
+        let each : ℕ → ℕ = λ v. 1 + t .prop v + lagOf t v in
+        omega (
+          arith,
+          route-same (λ v. delay t v + t .prop v) each xs
+              (λ v there. omega (arith, delay-least t sound v k (climbs-below (t .wires) 0 v xs c there) lk there)),
+          last-total each (t .wires) 0 xs (sound .hops-least k lk) c,
+          along-add (λ v. 1 + t .prop v) (lagOf t) z xs,
+        )
+
+    module _ (k r slot : ℕ) (lk : k < t .channels) (due : r + endToEnd t k ≤ slot) where
+      delivered-total : (g : Frame → ℕ) → total g (message t released k r) ≡ total g (delivered t (run .gone) k r slot)
+      delivered-total g =
+          let xs = t .route k in
+          let z = lastWire xs in
+          let c = sound .climbs k lk in
+          let there = last-there xs (sound .hops-least k lk) in
+          let lz = climbs-below (t .wires) 0 z xs c there in
+          let flow = flows t released (run .arrived) (run .gone) (run .any-order) (lagOf t) k lk c z (λ v below lv. wired v lv .0) there in
+          let passes = wired z lz .0 in
+          let n = slot - t .prop z in
+          let onto = r + (shortest t z k + longer t (lagOf t) z k) in
+          let came : suc r + (shortest t z k + longer t (lagOf t) z k) ≡ suc onto = omega arith in
+          omega (
+            arith,
+            total-delivered t (run .gone) k r slot g,
+            passes .fair (own k (young r g)) n,
+            flow .sooner (young r g) n,
+            released-most t released k r g (n - shortest t z k),
+            released-by t released k r g (suc r) (omega arith),
+            flow .later (young r g) (suc r),
+            ap (before (run .arrived z) (own k (young r g))) came,
+            passes .prompt (own k (young r g)) onto,
+            sum-grows (λ (s : ℕ). total (own k (young r g)) (run .gone z s)) (suc (onto + lagOf t z)) n (omega (arith, end-to-end k lk)),
+          )
+
+    pub delivered-whole :
+        (k r slot : ℕ) → k < t .channels → r + endToEnd t k ≤ slot →
+        AnyOrder (message t released k r) (delivered t (run .gone) k r slot)
+    delivered-whole k r slot lk due = any-order-complete _ _ (λ f. delivered-total k r slot lk due (λ (x : Frame). only (same f x) 1))

@@ -1,0 +1,99 @@
+-- Ascending induction. Laws of sums over numbers below a bound, and of totals over lists.
+use mathlib.Core.Path.{_≡_, refl, ap, sym}
+use mathlib.Core.List.{List, [], _∷_, _++_, map}
+use Prim.Native.Nat.{ℕ, zero, suc, _+_, _*_, _≤_, _<_}
+use native.Mathlib.Decide.{decLe, ℕ-discrete}
+use native.Mathlib.Omega.{arith}
+use Rattle.rules.specs.Words.{sum, total}
+
+-- ascending: what holds of a number where it holds of all below, holds
+pub ascend : (P : ℕ → Type 0) → ((w : ℕ) → ((v : ℕ) → v < w → P v) → P w) → (w : ℕ) → P w
+ascend P step w = step w (below w)
+  where
+    below : (n v : ℕ) → v < n → P v
+    below zero v l = absurd (omega arith)
+    below (suc n) v l = step v (λ u less. below n u (omega arith))
+
+pub sum-le : (f g : ℕ → ℕ) (n : ℕ) → ((i : ℕ) → i < n → f i ≤ g i) → sum f n ≤ sum g n
+unfolding sum
+sum-le f g zero h = omega arith
+sum-le f g (suc n) h = omega (arith, sum-le f g n (λ i l. h i (omega arith)), h n (omega arith))
+
+pub sum-same : (f g : ℕ → ℕ) (n : ℕ) → ((i : ℕ) → i < n → f i ≡ g i) → sum f n ≡ sum g n
+unfolding sum
+sum-same f g zero h = refl
+sum-same f g (suc n) h = omega (arith, sum-same f g n (λ i l. h i (omega arith)), h n (omega arith))
+
+pub sum-add : (f g : ℕ → ℕ) (n : ℕ) → sum (λ i. f i + g i) n ≡ sum f n + sum g n
+unfolding sum
+sum-add f g zero = omega arith
+sum-add f g (suc n) = omega (arith, sum-add f g n)
+
+pub sum-scale : (c : ℕ) (f : ℕ → ℕ) (n : ℕ) → sum (λ i. c * f i) n ≡ c * sum f n
+unfolding sum
+sum-scale c f zero = omega arith
+sum-scale c f (suc n) = omega (arith, sum-scale c f n)
+
+pub sum-none : (n : ℕ) → sum (λ i. 0) n ≡ 0
+unfolding sum
+sum-none zero = refl
+sum-none (suc n) = omega (arith, sum-none n)
+
+pub sum-swap : (f : ℕ → ℕ → ℕ) (m n : ℕ) → sum (λ i. sum (f i) m) n ≡ sum (λ j. sum (λ i. f i j) n) m
+unfolding sum
+sum-swap f m zero = sym (sum-none m)
+sum-swap f m (suc n) = omega (arith, sum-swap f m n, sum-add (λ j. sum (λ i. f i j) n) (f n) m)
+
+pub sum-grows : (f : ℕ → ℕ) (a b : ℕ) → a ≤ b → sum f a ≤ sum f b
+unfolding sum
+sum-grows f a zero l = omega (arith, ap (λ (x : ℕ). sum f x) (a-zero l))
+  where
+    a-zero : a ≤ 0 → a ≡ 0
+    a-zero l = omega arith
+sum-grows f a (suc b) l =
+    elim (decLe a b) [
+      | yes le ↦ omega (arith, sum-grows f a b le)
+      | no gt ↦ (let e : a ≡ suc b = omega arith in omega (arith, ap (λ (x : ℕ). sum f x) e))
+    ]
+
+pub sum-has : (f : ℕ → ℕ) (n k : ℕ) → k < n → f k ≤ sum f n
+unfolding sum
+sum-has f n k l = omega (arith, sum-grows f (suc k) n l)
+
+-- only the k-th counts
+pub sum-alone : (f : ℕ → ℕ) (n k : ℕ) → k < n → ((i : ℕ) → ¬ (i ≡ k) → f i ≡ 0) → sum f n ≡ f k
+unfolding sum
+sum-alone f n k l h = go n l
+  where
+    before : (n : ℕ) → n ≤ k → sum f n ≡ 0
+    before zero l = refl
+    before (suc n) l = omega (arith, before n (omega arith), h n (omega arith))
+
+    go : (n : ℕ) → k < n → sum f n ≡ f k
+    go zero l = absurd (omega arith)
+    go (suc n) l =
+        elim (ℕ-discrete n k) [
+          | yes e ↦ omega (arith, before n (omega arith), ap (λ (x : ℕ). f x) e)
+          | no d ↦ omega (arith, go n (omega arith), h n d)
+        ]
+
+module _ {A : Type 0} where
+  pub total-append : (g : A → ℕ) (xs ys : List A) → total g (xs ++ ys) ≡ total g xs + total g ys
+  unfolding total
+  total-append g [] ys = omega arith
+  total-append g (x ∷ xs) ys = omega (arith, total-append g xs ys)
+
+  pub total-same : (g h : A → ℕ) (xs : List A) → ((x : A) → g x ≡ h x) → total g xs ≡ total h xs
+  unfolding total
+  total-same g h [] e = refl
+  total-same g h (x ∷ xs) e = omega (arith, e x, total-same g h xs e)
+
+  pub total-none : (g : A → ℕ) (xs : List A) → ((x : A) → g x ≡ 0) → total g xs ≡ 0
+  unfolding total
+  total-none g [] e = refl
+  total-none g (x ∷ xs) e = omega (arith, e x, total-none g xs e)
+
+pub total-map : {A B : Type 0} (g : B → ℕ) (f : A → B) (xs : List A) → total g (map f xs) ≡ total (λ x. g (f x)) xs
+unfolding total
+total-map g f [] = refl
+total-map g f (x ∷ xs) = ap (λ (n : ℕ). g (f x) + n) (total-map g f xs)

@@ -1,0 +1,173 @@
+-- The promise is not empty: releases that keep their declaration without end, and runs that reach the figures.
+use mathlib.Core.Path.{_≡_, refl}
+use mathlib.Core.Bool.{Bool, true, false}
+use mathlib.Core.List.{List, [], _∷_, _++_}
+use Prim.Native.Nat.{ℕ, suc, _*_, _/_, _%_, _≤_, _<_}
+use native.Mathlib.Nat.{div-add-mod', mul-le-mul-right, mul-mod-left, suc-mul}
+use native.Mathlib.Decide.{decLe, ℕ-discrete}
+use native.Mathlib.Omega.{arith}
+use lib.Dec.{eqb}
+use borrow.Author.Tests.{eq-eqb, ne-eqb}
+use Rattle.bits.specs.Field.{bit, field}
+use Rattle.rules.specs.Words.{sum, total, listed, only, has}
+use Rattle.rules.specs.Replies.{granted, test, each}
+use Rattle.rules.specs.Price.{lastBytes, price, lastFrame, frames}
+use Rattle.rules.specs.Table.{View, viewOf, hyperOf, wiresOf, channelsOf, wireAt, codeOf, rateOf, propOf, roomOf, framingAt, payloadAt, periodAt, deadlineAt, hopsAt, routeAt, channelAt, endOf, fillingOf}
+use Rattle.rules.specs.Reading.{headTests, wireTests, hopTests, recordTests, channelTests, fillingTests, readingTests}
+use Rattle.rules.specs.Bounds.{loadOf, load, along, jitter, shareOf, backlogAfter, delayAfter, delaysBelow, backlog, delay, endToEnd}
+use Rattle.rules.specs.Sheet.{figuresAt, endAt, sheetLength}
+use Rattle.rules.specs.Judgement.{loadTest, roomTest, deadlineTest, boundsTests, judge}
+use Rattle.rules.specs.Machine.{Frame, Releases, Keeps, message, ofChannel, bornIn, after, source, reaching, dueFrom, dueBelow, due, AnyOrder, none, more, here, sent, kept, bytes, Run, held, lastWire, goneBelow, delivered, Order, arrivals, step, played}
+use Rattle.rules.proofs.Sums.{total-append}
+use Rattle.rules.proofs.Orders.{same, any-order-complete}
+use Rattle.rules.proofs.Played.{played-run}
+
+only-most : (b : Bool) (n : ℕ) → only b n ≤ n
+only-most true n = omega arith
+only-most false n = omega arith
+
+-- Every channel releases its whole payload as often as it may, from slot 0 on.
+unfoldable pub periodic : View → Releases
+periodic t k r = only (eqb (r % t .period k) 0) (t .payload k)
+
+pub periodic-without-end : (t : View) (k n : ℕ) → periodic t k (n * t .period k) ≡ t .payload k
+unfolding periodic
+periodic-without-end t k n = rw (eq-eqb (n * t .period k % t .period k) 0 (mul-mod-left n (t .period k))) refl
+
+released-multiple : (t : View) (k r : ℕ) → 0 < periodic t k r → r / t .period k * t .period k ≡ r
+unfolding periodic
+released-multiple t k r h =
+    elim (ℕ-discrete (r % t .period k) 0) [
+      | yes e ↦ omega (arith, div-add-mod' r (t .period k))
+      | no d ↦ absurd (omega (arith, rw (ne-eqb (r % t .period k) 0 d) at h))
+    ]
+
+pub periodic-keeps : (t : View) → Keeps t (periodic t)
+unfolding periodic
+periodic-keeps t =
+    record {
+      declared = λ k r lk. only-most (eqb (r % t .period k) 0) (t .payload k);
+      apart = λ k r later lk l x y.
+          (let p = t .period k in
+          let first = released-multiple t k r x in
+          let second = released-multiple t k later y in
+          elim (decLe (suc (r / p)) (later / p)) [
+            | yes fine ↦ omega (arith, mul-le-mul-right p fine, suc-mul (r / p) p)
+            | no n ↦ absurd (omega (arith, mul-le-mul-right {m = later / p} {n = r / p} p (omega arith)))
+          ]);
+    }
+
+-- Two orders: as they are due, and the last first.
+abbrev pub in-turn : Order
+in-turn slot w fs = fs
+
+pub in-turn-any : (slot w : ℕ) (fs : List Frame) → AnyOrder fs (in-turn slot w fs)
+in-turn-any slot w [] = none
+in-turn-any slot w (f ∷ fs) = more (in-turn-any slot w fs) here
+
+unfoldable pub backwards : List Frame → List Frame
+backwards [] = []
+backwards (f ∷ fs) = backwards fs ++ (f ∷ [])
+
+backwards-total : (g : Frame → ℕ) (fs : List Frame) → total g fs ≡ total g (backwards fs)
+unfolding backwards total
+backwards-total g [] = refl
+backwards-total g (f ∷ fs) = omega (arith, total-append g (backwards fs) (f ∷ []), backwards-total g fs)
+
+abbrev pub last-first : Order
+last-first slot w fs = backwards fs
+
+pub last-first-any : (slot w : ℕ) (fs : List Frame) → AnyOrder fs (last-first slot w fs)
+last-first-any slot w fs =
+    any-order-complete fs (backwards fs) (λ f. backwards-total (λ (x : Frame). only (same f x) 1) fs)
+
+-- what the computations below see through
+definitions : Unit {0}
+unfolding bit field sum total has test each lastBytes price hyperOf wiresOf channelsOf wireAt codeOf rateOf propOf roomOf framingAt payloadAt periodAt deadlineAt hopsAt routeAt channelAt endOf fillingOf headTests wireTests hopTests recordTests channelTests fillingTests readingTests loadOf load along jitter shareOf backlogAfter delayAfter delaysBelow backlog delay endToEnd figuresAt endAt sheetLength loadTest roomTest deadlineTest boundsTests judge listed lastFrame frames message ofChannel bornIn after source reaching dueFrom dueBelow due sent kept bytes lastWire goneBelow delivered arrivals step played periodic backwards
+definitions = tt
+
+-- Case A: wire 0 holds exactly its backlog, and the message takes exactly its end-to-end delay.
+abbrev pub caseA : List ℕ
+caseA = 0x00 ∷ 0x03 ∷ 0x48 ∷ 0x02 ∷ 0x02 ∷ 0x00 ∷ 0xe0 ∷ 0x00 ∷ 0x0a ∷ 0x80 ∷ 0x00 ∷ 0x10 ∷ 0x00 ∷ 0x05 ∷ 0x40 ∷ 0x00 ∷ 0x05 ∷ 0xb1 ∷ 0x00 ∷ []
+
+abbrev pub runA : Run (viewOf caseA) (periodic (viewOf caseA))
+runA = played-run (viewOf caseA) (periodic (viewOf caseA)) in-turn in-turn-any
+
+pub a-accepted : judge caseA 12 ≡ granted (12 ∷ [])
+unfolding definitions
+a-accepted = refl
+
+pub a-held : held runA 0 0 ≡ 84
+unfolding definitions
+a-held = refl
+
+pub a-message : message (viewOf caseA) (periodic (viewOf caseA)) 0 0 ≡ record { channel = 0; born = 0; size = 84 } ∷ []
+unfolding definitions
+a-message = refl
+
+pub a-early : delivered (viewOf caseA) (runA .gone) 0 0 90 ≡ []
+unfolding definitions
+a-early = refl
+
+pub a-there : delivered (viewOf caseA) (runA .gone) 0 0 91 ≡ message (viewOf caseA) (periodic (viewOf caseA)) 0 0
+unfolding definitions
+a-there = refl
+
+-- A later wire, with a jitter that counts: H 4; two wires of rate 100; channel 0 payload 1, period 2, route 0, 1; channel 1
+-- payload 71, period 4, route 0. Channel 1's frame goes first and holds channel 0's first back until its second is close
+-- behind, and overtakes it: wire 1 holds exactly its backlog, and the first message takes exactly its end-to-end delay.
+abbrev pub later : List ℕ
+later = 0x00 ∷ 0x00 ∷ 0x04 ∷ 0x04 ∷ 0x05 ∷ 0x00 ∷ 0x00 ∷ 0x00 ∷ 0x19 ∷ 0x30 ∷ 0x00 ∷ 0x00 ∷ 0x01 ∷ 0x50 ∷ 0x00 ∷ 0x01 ∷ 0x00 ∷ 0x00 ∷ 0x02 ∷ 0x00 ∷ 0x00 ∷ 0x05 ∷ 0x20 ∷ 0x01 ∷ 0x00 ∷ 0x23 ∷ 0x80 ∷ 0x00 ∷ 0x02 ∷ 0x00 ∷ 0x00 ∷ 0x01 ∷ 0x88 ∷ 0x00 ∷ []
+
+abbrev pub runLater : Run (viewOf later) (periodic (viewOf later))
+runLater = played-run (viewOf later) (periodic (viewOf later)) last-first last-first-any
+
+pub later-accepted : judge later 21 ≡ granted (21 ∷ [])
+unfolding definitions
+later-accepted = refl
+
+pub later-figures : (backlog (viewOf later) 1 ≡ 168) × (endToEnd (viewOf later) 0 ≡ 5)
+unfolding definitions
+later-figures = (refl, refl)
+
+pub later-held : held runLater 1 3 ≡ 168
+unfolding definitions
+later-held = refl
+
+pub later-message : message (viewOf later) (periodic (viewOf later)) 0 0 ≡ record { channel = 0; born = 0; size = 84 } ∷ []
+unfolding definitions
+later-message = refl
+
+pub later-early : delivered (viewOf later) (runLater .gone) 0 0 4 ≡ []
+unfolding definitions
+later-early = refl
+
+pub later-there : delivered (viewOf later) (runLater .gone) 0 0 5 ≡ message (viewOf later) (periodic (viewOf later)) 0 0
+unfolding definitions
+later-there = refl
+
+-- Two frames: H 100; two wires of rate 100, propagation 3 and 5; a channel of payload 1,493, period 100, route 0, 1. The
+-- message is there with its second frame, not with its first.
+abbrev pub twoFrames : List ℕ
+twoFrames = 0x00 ∷ 0x00 ∷ 0x64 ∷ 0x04 ∷ 0x03 ∷ 0x00 ∷ 0x60 ∷ 0x00 ∷ 0xca ∷ 0xd0 ∷ 0x0a ∷ 0x00 ∷ 0x0e ∷ 0xb2 ∷ 0x05 ∷ 0xd5 ∷ 0x00 ∷ 0x00 ∷ 0x64 ∷ 0x00 ∷ 0x00 ∷ 0x2c ∷ 0x20 ∷ 0x01 ∷ []
+
+abbrev pub runTwo : Run (viewOf twoFrames) (periodic (viewOf twoFrames))
+runTwo = played-run (viewOf twoFrames) (periodic (viewOf twoFrames)) in-turn in-turn-any
+
+pub two-accepted : judge twoFrames 18 ≡ granted (18 ∷ [])
+unfolding definitions
+two-accepted = refl
+
+pub two-message :
+    message (viewOf twoFrames) (periodic (viewOf twoFrames)) 0 0
+    ≡ record { channel = 0; born = 0; size = 1538 } ∷ record { channel = 0; born = 0; size = 84 } ∷ []
+unfolding definitions
+two-message = refl
+
+pub two-part : delivered (viewOf twoFrames) (runTwo .gone) 0 0 40 ≡ record { channel = 0; born = 0; size = 1538 } ∷ []
+unfolding definitions
+two-part = refl
+
+pub two-whole : delivered (viewOf twoFrames) (runTwo .gone) 0 0 41 ≡ message (viewOf twoFrames) (periodic (viewOf twoFrames)) 0 0
+unfolding definitions
+two-whole = refl
