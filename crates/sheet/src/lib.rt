@@ -7,7 +7,6 @@ ghost use Rattle.bits.specs.Field.{field, widest};
 ghost use Rattle.rules.specs.Numbers.{wiresMost, channelsMost};
 ghost use Rattle.rules.specs.Replies.{Reply, test, wireReply, channelReply};
 ghost use Rattle.rules.specs.Sheet.{figuresAt, endAt, sheetWires, sheetChannels, sheetTests, askWire, askChannel};
-
 use bits::Taken;
 use rules::AskedChannel;
 use rules::AskedWire;
