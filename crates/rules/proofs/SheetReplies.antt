@@ -20,6 +20,14 @@ use Rattle.rules.specs.Sheet.{figuresAt, endAt, sheetLength, sheetWires,
 abbrev pub Outside : ℕ → ℕ → Type 0
 Outside count most = (count < 1) ⊎ (most < count)
 
+-- the counts are there, each within its range
+pub record Counted (s : List ℕ) : Type 0 where
+  pub two-bytes : 2 ≤ length s
+  pub wires-least : 1 ≤ sheetWires s
+  pub wires-most : sheetWires s ≤ wiresMost
+  pub channels-least : 1 ≤ sheetChannels s
+  pub channels-most : sheetChannels s ≤ channelsMost
+
 -- ---- the tests, by the first that fails
 
 module _ (s : List ℕ) (rest : Reply) where
@@ -52,33 +60,33 @@ module _ (s : List ℕ) (rest : Reply) where
             lt-leb (sheetChannels s) channelsMost l,
           )
 
-      module _ (channels-least : 1 ≤ sheetChannels s) (channels-most : sheetChannels s ≤ channelsMost) (end : ℕ) (is : end ≡ endAt (sheetWires s) (sheetChannels s)) where
-        -- what is left are the tests of length and filling
-        counted : sheetTests s rest ≡ test (eqb (length s) (up end 8)) 16 0 (test (eqb (field s end (8 * length s - end)) 0) 18 0 rest)
-        unfolding sheetTests sheetLength fillingOf test
-        counted =
-            rw (
-              is,
-              le-leb 2 (length s) two,
-              le-leb 1 (sheetWires s) wires-least,
-              le-leb (sheetWires s) wiresMost wires-most,
-              le-leb 1 (sheetChannels s) channels-least,
-              le-leb (sheetChannels s) channelsMost channels-most,
-            )
+  module _ (counted : Counted s) (end : ℕ) (is : end ≡ endAt (sheetWires s) (sheetChannels s)) where
+    -- what is left are the tests of length and filling
+    left : sheetTests s rest ≡ test (eqb (length s) (up end 8)) 16 0 (test (eqb (field s end (8 * length s - end)) 0) 18 0 rest)
+    unfolding sheetTests sheetLength fillingOf test
+    left =
+        rw (
+          is,
+          le-leb 2 (length s) (counted .two-bytes),
+          le-leb 1 (sheetWires s) (counted .wires-least),
+          le-leb (sheetWires s) wiresMost (counted .wires-most),
+          le-leb 1 (sheetChannels s) (counted .channels-least),
+          le-leb (sheetChannels s) channelsMost (counted .channels-most),
+        )
 
-        pub tests-length : length s ≢ up end 8 → sheetTests s rest ≡ refused 16 0
-        unfolding test
-        tests-length ne = counted ∙ rw (ne-eqb (length s) (up end 8) ne)
+    pub tests-length : length s ≢ up end 8 → sheetTests s rest ≡ refused 16 0
+    unfolding test
+    tests-length ne = left ∙ rw (ne-eqb (length s) (up end 8) ne)
 
-        pub tests-filling : length s ≡ up end 8 → 1 ≤ field s end (8 * length s - end) → sheetTests s rest ≡ refused 18 0
-        unfolding test
-        tests-filling e l =
-            counted
-            ∙ rw (eq-eqb (length s) (up end 8) e, ne-eqb (field s end (8 * length s - end)) 0 (λ z. omega arith))
+    pub tests-filling : length s ≡ up end 8 → 1 ≤ field s end (8 * length s - end) → sheetTests s rest ≡ refused 18 0
+    unfolding test
+    tests-filling e l =
+        left
+        ∙ rw (eq-eqb (length s) (up end 8) e, ne-eqb (field s end (8 * length s - end)) 0 (λ z. omega arith))
 
-        pub tests-pass : length s ≡ up end 8 → field s end (8 * length s - end) ≡ 0 → sheetTests s rest ≡ rest
-        unfolding test
-        tests-pass e z = counted ∙ rw (eq-eqb (length s) (up end 8) e, eq-eqb (field s end (8 * length s - end)) 0 z)
+    pub tests-pass : length s ≡ up end 8 → field s end (8 * length s - end) ≡ 0 → sheetTests s rest ≡ rest
+    unfolding test
+    tests-pass e z = left ∙ rw (eq-eqb (length s) (up end 8) e, eq-eqb (field s end (8 * length s - end)) 0 z)
 
 -- ---- the tests as one number
 
@@ -89,11 +97,7 @@ Fault s number = (rest : Reply) → sheetTests s rest ≡ test (eqb number 0) nu
 -- what is known of a byte string that passes
 pub record Passed (s : List ℕ) : Type 0 where
   pub goes-on : (rest : Reply) → sheetTests s rest ≡ rest
-  pub two-bytes : 2 ≤ length s
-  pub wires-least : 1 ≤ sheetWires s
-  pub wires-most : sheetWires s ≤ wiresMost
-  pub channels-least : 1 ≤ sheetChannels s
-  pub channels-most : sheetChannels s ≤ channelsMost
+  pub counted : Counted s
   pub all-there : length s ≡ up (endAt (sheetWires s) (sheetChannels s)) 8
 
 module _ (s : List ℕ) (goes-on : (rest : Reply) → sheetTests s rest ≡ rest) where
@@ -105,24 +109,25 @@ module _ (s : List ℕ) (goes-on : (rest : Reply) → sheetTests s rest ≡ rest
       let z : _≡_ {A = ℕ} 0 1 = cc in
       absurd (omega arith)
 
+  passed-counts : Counted s
+  passed-counts =
+      let two : 2 ≤ length s = holds (decLe 2 (length s)) (λ o. tests-short s _ (omega arith)) in
+      let some : 1 ≤ sheetWires s = holds (decLe 1 (sheetWires s)) (λ o. tests-wires s _ two (inl (omega arith))) in
+      let few : sheetWires s ≤ wiresMost = holds (decLe (sheetWires s) wiresMost) (λ o. tests-wires s _ two (inr (omega arith))) in
+      record {
+        two-bytes = two;
+        wires-least = some;
+        wires-most = few;
+        channels-least = holds (decLe 1 (sheetChannels s)) (λ o. tests-channels s _ two some few (inl (omega arith)));
+        channels-most = holds (decLe (sheetChannels s) channelsMost) (λ o. tests-channels s _ two some few (inr (omega arith)));
+      }
+
   passed : Passed s
   passed =
-      let two : 2 ≤ length s = holds (decLe 2 (length s)) (λ n. tests-short s _ (omega arith)) in
-      let n-least : 1 ≤ sheetWires s = holds (decLe 1 (sheetWires s)) (λ n. tests-wires s _ two (inl (omega arith))) in
-      let n-most : sheetWires s ≤ wiresMost = holds (decLe (sheetWires s) wiresMost) (λ n. tests-wires s _ two (inr (omega arith))) in
-      let m-least : 1 ≤ sheetChannels s
-      = holds (decLe 1 (sheetChannels s)) (λ n. tests-channels s _ two n-least n-most (inl (omega arith))) in
-      let m-most : sheetChannels s ≤ channelsMost
-      = holds (decLe (sheetChannels s) channelsMost) (λ n. tests-channels s _ two n-least n-most (inr (omega arith))) in
       record {
         goes-on = goes-on;
-        two-bytes = two;
-        wires-least = n-least;
-        wires-most = n-most;
-        channels-least = m-least;
-        channels-most = m-most;
-        all-there =
-            holds (ℕ-discrete (length s) _) (λ ne. tests-length s _ two n-least n-most m-least m-most _ refl ne);
+        counted = passed-counts;
+        all-there = holds (ℕ-discrete (length s) _) (λ o. tests-length s _ passed-counts _ refl o);
       }
 
 module _ (s : List ℕ) (number : ℕ) (fault : Fault s number) where

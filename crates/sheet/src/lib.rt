@@ -13,8 +13,18 @@ use rules::AskedWire;
 use rules::Table;
 
 const BYTE_BITS: usize = 8;
+
 // The bytes that hold the counts.
 const HEAD_BYTES: usize = 2;
+
+// Numbers of refusal.
+const WRONG_LENGTH: u64 = 16;
+
+const WRONG_COUNT: u64 = 17;
+
+const FILLED: u64 = 18;
+
+const NONE_SUCH: u64 = 19;
 
 struct Counts {
     wires: usize,
@@ -64,29 +74,29 @@ fn fault(sheet: &[u8]) -> u64
     ensures { λ r. ⌜ ((rest : Reply) → sheetTests (now (sheet .entry)) rest ≡ test (eqb r 0) r 0 rest) ⌝ }
 {
     if sheet.len() < HEAD_BYTES {
-        return 16;
+        return WRONG_LENGTH;
     }
     let n = counts_of(sheet);
     let wires = n.wires;
     let channels = n.channels;
     if wires < 1 {
-        return 17;
+        return WRONG_COUNT;
     }
     if Table::WIRES_MOST < wires {
-        return 17;
+        return WRONG_COUNT;
     }
     if channels < 1 {
-        return 17;
+        return WRONG_COUNT;
     }
     if Table::CHANNELS_MOST < channels {
-        return 17;
+        return WRONG_COUNT;
     }
     let end = end_at(wires, channels);
     if sheet.len() != (end + (BYTE_BITS - 1)) / BYTE_BITS {
-        return 16;
+        return WRONG_LENGTH;
     }
     if field_at(sheet, end, BYTE_BITS * sheet.len() - end) != 0 {
-        return 18;
+        return FILLED;
     }
     0
 }
@@ -100,11 +110,12 @@ pub fn ask_wire(sheet: &[u8], wire: u64) -> AskedWire
     }
     let n = counts_of(sheet);
     if n.wires as u64 <= wire {
-        return AskedWire::Refused(19, 0);
+        return AskedWire::Refused(NONE_SUCH, 0);
     }
     let at = figures_at(wire as usize);
+    let next = at + Table::BACKLOG_BITS;
     let backlog = field_at(sheet, at, Table::BACKLOG_BITS);
-    let delay = field_at(sheet, at + Table::BACKLOG_BITS, Table::DELAY_BITS);
+    let delay = field_at(sheet, next, Table::DELAY_BITS);
     AskedWire::Figures(backlog, delay)
 }
 
@@ -117,7 +128,7 @@ pub fn ask_channel(sheet: &[u8], channel: u64) -> AskedChannel
     }
     let n = counts_of(sheet);
     if n.channels as u64 <= channel {
-        return AskedChannel::Refused(19, 0);
+        return AskedChannel::Refused(NONE_SUCH, 0);
     }
     let at = end_at(n.wires, channel as usize);
     AskedChannel::Delay(field_at(sheet, at, Table::END_BITS))

@@ -34,13 +34,13 @@ returns-2 c =
 figures-at-requires : tie.Need-figures-at-requires
 figures-at-requires c κs = omega (arith, pass (c .before .before))
 
+add-next : tie.Need-add-next
+unfolding figuresAt
+add-next c = omega (arith, pass (c .before .before .before))
+
 field-at-requires : tie.Need-field-at-requires
 unfolding figuresAt endAt
 field-at-requires c κs = omega (arith, pass (c .before .before .before))
-
-add-field-at : tie.Need-add-field-at
-unfolding figuresAt endAt
-add-field-at c = omega (arith, pass (c .before .before .before .before))
 
 field-at-requires-2 : tie.Need-field-at-requires-2
 unfolding figuresAt endAt
@@ -61,7 +61,7 @@ ask-wire-spec =
     counts-of-requires
     returns-2
     figures-at-requires
+    add-next
     field-at-requires
-    add-field-at
     field-at-requires-2
     returns-3)
