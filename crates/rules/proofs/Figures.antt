@@ -55,7 +55,7 @@ module _ (t : View) (sound : Sound t) (released : Releases) (keeps : Keeps t rel
   releases-most a n =
       let most =
       window-most (λ (r : ℕ). total sizeOf (message t released k r)) (cost t k) (t .period k) message-most
-      (λ r later l x y. keeps .apart k r later lk l (some-released r x) (some-released later y)) a n in
+      (λ r later l x y. omega (arith, keeps .apart k r later lk l (some-released r x) (some-released later y))) a n in
       omega (
         arith,
         mul-le-mul-left (times t k) most,

@@ -1,4 +1,5 @@
 -- The promise holds: from acceptance to the figures, and from the figures to what asking the sheet replies.
+use native.Mathlib.Omega.{arith}
 use Rattle.rules.specs.Table.{viewOf}
 use Rattle.rules.specs.Promise.{Promise}
 use Rattle.rules.proofs.JudgementLaws.{judge-accepted}
@@ -14,8 +15,8 @@ promise s lent length e released keeps run =
     let bounded = accepted .0 .bounded in
     let answers = accepted-asked s lent length e (accepted .1) (fits-view s sound (bounded .backlogs) (bounded .ends)) in
     record {
-      backlogs = λ w l. rw (answers .wire w l) (λ slot. backlog-holds t sound (bounded .loads) released keeps run w slot l);
+      backlogs = λ w l. rw (answers .wire w l) (λ slot. omega (arith, backlog-holds t sound (bounded .loads) released keeps run w slot l));
       delays = λ k l.
           rw (answers .channel k l)
-          (bounded .ends k l, λ r slot due. delivered-whole t sound (bounded .loads) released keeps run k r slot l due);
+          (omega (arith, bounded .ends k l), λ r slot due. delivered-whole t sound (bounded .loads) released keeps run k r slot l (omega arith));
     }
