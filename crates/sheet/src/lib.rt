@@ -1,4 +1,4 @@
-// Asking any byte string, as a sheet, for a wire or a channel.
+// Asking any byte string for a wire or a channel of the sheet that it may be.
 ghost use mathlib.Core.Path.{_≡_};
 ghost use Prim.Native.Nat.{_+_, _*_, _≤_};
 ghost use lib.ListN.{length};
@@ -26,6 +26,7 @@ const FILLED: u64 = 18;
 
 const NONE_SUCH: u64 = 19;
 
+// What a sheet's head says.
 struct Counts {
     wires: usize,
     channels: usize,
@@ -101,6 +102,7 @@ fn fault(sheet: &[u8]) -> u64
     0
 }
 
+// Its backlog and delay, or the refusal.
 pub fn ask_wire(sheet: &[u8], wire: u64) -> AskedWire
     ensures { λ r. ⌜ wireReply r ≡ askWire (now (sheet .entry)) wire ⌝ }
 {
@@ -119,6 +121,7 @@ pub fn ask_wire(sheet: &[u8], wire: u64) -> AskedWire
     AskedWire::Figures(backlog, delay)
 }
 
+// Its end-to-end delay, or the refusal.
 pub fn ask_channel(sheet: &[u8], channel: u64) -> AskedChannel
     ensures { λ r. ⌜ channelReply r ≡ askChannel (now (sheet .entry)) channel ⌝ }
 {

@@ -1,12 +1,9 @@
 -- `sheet::counts_of` meets its contract.
 -- Assumes nothing.
-use Rattle.rules.specs.Sheet.{sheetWires, sheetChannels}
 use borrow.Author.Needs.{needs}
+use Rattle.rules.specs.Sheet.{sheetWires, sheetChannels}
 use Rattle.sheet.proofs.counts_of.Statement.{statement}
 use Rattle.sheet.proofs.counts_of.Tie as tie
-use Rattle.sheet.proofs.counts_of.Reads as reads
-use Rattle.sheet.proofs.counts_of.Lts as lts
-use Rattle.sheet.proofs.field_at.Reads as field-at-reads
 
 field-at-requires : tie.Need-field-at-requires
 field-at-requires c κs = search needs

@@ -1,13 +1,10 @@
 -- `sheet::end_at` meets its contract.
 -- Assumes nothing.
 use native.Mathlib.Omega.{arith}
-use Rattle.rules.specs.Sheet.{figuresAt, endAt}
 use borrow.Author.Needs.{needs}
+use Rattle.rules.specs.Sheet.{figuresAt, endAt}
 use Rattle.sheet.proofs.end_at.Statement.{statement}
 use Rattle.sheet.proofs.end_at.Tie as tie
-use Rattle.sheet.proofs.end_at.Reads as reads
-use Rattle.sheet.proofs.end_at.Lts as lts
-use Rattle.sheet.proofs.figures_at.Reads as figures-at-reads
 
 figures-at-requires : tie.Need-figures-at-requires
 figures-at-requires c κs = search needs

@@ -1,11 +1,11 @@
 -- `sheet::field_at` meets its contract: the field is served, so the reader gives its number.
 -- Assumes nothing.
-use mathlib.Core.Path.{_≡_, sym, _∙_}
+use mathlib.Core.Path.{_≡_, _∙_}
 use Prim.Native.Nat.{ℕ}
 use native.Mathlib.Omega.{arith}
 use borrow.Author.Needs.{needs}
 use Rattle.bits.specs.Field.{field}
-use Rattle.bits.specs.declared.Taken.the-variants.{Number, Nothing}
+use Rattle.bits.specs.declared.Taken.the-variants.{Number}
 use Rattle.bits.proofs.Laws.{takenOf-number}
 use Rattle.sheet.proofs.field_at.Statement.{statement}
 use Rattle.sheet.proofs.field_at.Tie as tie

@@ -1,12 +1,10 @@
 -- `sheet::figures_at` meets its contract.
 -- Assumes nothing.
 use native.Mathlib.Omega.{arith}
-use Rattle.rules.specs.Sheet.{figuresAt}
 use borrow.Author.Needs.{needs}
+use Rattle.rules.specs.Sheet.{figuresAt}
 use Rattle.sheet.proofs.figures_at.Statement.{statement}
 use Rattle.sheet.proofs.figures_at.Tie as tie
-use Rattle.sheet.proofs.figures_at.Reads as reads
-use Rattle.sheet.proofs.figures_at.Lts as lts
 
 mul-result : tie.Need-mul-result
 mul-result c = search needs
