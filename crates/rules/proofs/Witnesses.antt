@@ -10,7 +10,7 @@ use lib.Dec.{eqb}
 use borrow.Author.Tests.{eq-eqb, ne-eqb}
 use Rattle.bits.specs.Field.{bit, field}
 use Rattle.rules.specs.Words.{sum, total, listed, only, has}
-use Rattle.rules.specs.Replies.{granted, test, each}
+use Rattle.rules.specs.Replies.{granted, refused, test, each}
 use Rattle.rules.specs.Price.{lastBytes, price, lastFrame, frames}
 use Rattle.rules.specs.Table.{View, viewOf, hyperOf, wiresOf, channelsOf, wireAt, codeOf, rateOf, propOf, roomOf, framingAt, payloadAt, periodAt, deadlineAt, hopsAt, routeAt, channelAt, endOf, fillingOf}
 use Rattle.rules.specs.Reading.{headTests, wireTests, hopTests, recordTests, channelTests, fillingTests, readingTests}
@@ -171,3 +171,12 @@ two-part = refl
 pub two-whole : delivered (viewOf twoFrames) (runTwo .gone) 0 0 41 ≡ message (viewOf twoFrames) (periodic (viewOf twoFrames)) 0 0
 unfolding definitions
 two-whole = refl
+
+-- A load one over: H 85, rate 1, one message of 86 bytes in 85 slots.
+pub over : List ℕ
+over =
+    0x00 ∷ 0x00 ∷ 0x55 ∷ 0x02 ∷ 0x02 ∷ 0x00 ∷ 0x00 ∷ 0x00 ∷ 0x7d ∷ 0x00 ∷ 0x02 ∷ 0x80 ∷ 0x00 ∷ 0x05 ∷ 0x50 ∷ 0x00 ∷ 0x3e ∷ 0x81 ∷ 0x00 ∷ []
+
+pub one-over : judge over 12 ≡ refused 12 0
+unfolding over definitions
+one-over = refl
