@@ -2,19 +2,20 @@
 -- Assumes nothing.
 use mathlib.Core.Path.{_≡_, refl, sym, ap, ap₂, subst, _∙_}
 use mathlib.Core.Logic.{_≢_, _⊎_, inl, inr}
-use mathlib.Core.Bool.{true}
+use mathlib.Core.Bool.{Bool, true, false, _&&_, cond}
 use mathlib.Core.List.{List, _++_}
 use Prim.Native.Nat.{ℕ, zero, suc, _+_, _-_, _*_, _/_, _%_, _^_, _≤_, _<_}
-use native.Mathlib.Nat.{zero-lt-suc, le-dest, add-zero, add-suc, pow-suc, zero-div, mod-lt, mod-eq-of-lt, mul-le-mul-right, mul-add-div-right, mul-add-mod-self-right, div-add-mod'}
+use native.Mathlib.Nat.{zero-lt-suc, le-dest, add-zero, add-suc, pow-suc, zero-div, mod-lt, mod-eq-of-lt, mul-le-mul-right, mul-add-div-right, mul-add-mod-self-right}
 use native.Mathlib.Decide.{ℕ-discrete, decLt}
 use native.Mathlib.Omega.{arith}
-use lib.ListN.{length, getD, set, take, replicate, length-set, getD-replicate, length-replicate, List·getD-eq-default, List·getD-append}
+use lib.ListN.{length, getD, set, take, replicate, length-set, List·getD-eq-default, List·getD-append}
 use lib.Seq.{getD-set-same, getD-set-other, set-out, getD-take, getD-append-add, ext-getD}
+use lib.Dec.{leb}
 use lib.Arith.{digits-lt, digits-mod}
 use lib.Pow.{pow-pos, pow-add, shr-lt, shr-shr, split, high, mod-pow-add}
 use borrow.Author.Tests.{le-leb, leb-true, lt-ltb}
 use Rattle.bits.specs.Field.{bit, field, within, byteWith, putBit, putField, Bytes, widest, served, takenOf, fieldFits, wroteField}
-use Rattle.bits.specs.declared.Taken.the-variants.{Number}
+use Rattle.bits.specs.declared.Taken.the-variants.{Number, Nothing}
 
 -- ---- one binary digit of a number
 
@@ -216,16 +217,17 @@ pub field-bits : (s t : List ℕ) (at w : ℕ) → field s at w ≡ field t at w
 field-bits s t at w e i l h =
     subst (λ (m : ℕ). bit s m ≡ bit t m) (le-dest l .1) (same-bits s t at at w e (le-dest l .0) (omega (arith, le-dest l .1)))
 
-pub field-none : (s : List ℕ) (at w : ℕ) → ((i : ℕ) → at ≤ i → bit s i ≡ 0) → field s at w ≡ 0
+pub field-none : (s : List ℕ) (at w : ℕ) → ((i : ℕ) → at ≤ i → i < at + w → bit s i ≡ 0) → field s at w ≡ 0
 unfolding field
 field-none s at zero h = refl
-field-none s at (suc w) h = omega (arith, field-none s at w h, h (at + w) (omega arith))
+field-none s at (suc w) h =
+    omega (arith, field-none s at w (λ i l m. h i l (omega arith)), h (at + w) (omega arith) (omega arith))
 
 pub field-zeros : (n at w : ℕ) → field (replicate n 0) at w ≡ 0
-field-zeros n at w = field-none (replicate n 0) at w (λ i l. bit-zeros n i)
+field-zeros n at w = field-none (replicate n 0) at w (λ i l m. bit-zeros n i)
 
 pub field-past : (s : List ℕ) (at w : ℕ) → 8 * length s ≤ at → field s at w ≡ 0
-field-past s at w h = field-none s at w (λ i l. bit-past s i (omega arith))
+field-past s at w h = field-none s at w (λ i l m. bit-past s i (omega arith))
 
 -- the first a bits are the high digits
 pub field-split : (s : List ℕ) (at a b : ℕ) → field s at (a + b) ≡ field s at a * 2 ^ b + field s (at + a) b
@@ -286,11 +288,27 @@ unfolding putField
 bytes-putField s at zero v h = h
 bytes-putField s at (suc w) v h = bytes-putBit (putField s at w (v / 2)) (at + w) (v % 2) (omega arith) (bytes-putField s at w (v / 2) h)
 
--- ---- the replies where the field is served
+-- ---- the replies
 
 pub within-le : (s : List ℕ) (at w : ℕ) → within s at w ≡ true → at + w ≤ 8 * length s
 within-le s at w e = leb-true (at + w) (8 * length s) e
 
+both : (a b : Bool) → (a && b) ≡ true → (a ≡ true) × (b ≡ true)
+both true b e = (refl, e)
+both false b e = (e, cc)
+
+number : (b : Bool) (n v : ℕ) → cond b (Number n) Nothing ≡ Number v → (b ≡ true) × (v ≡ n)
+number true n v e = (refl, cc)
+number false n v e = (cc, cc)
+
+-- a number that was read is the field's, which is served
+pub takenOf-is : (s : List ℕ) (at w v : ℕ) → takenOf s at w ≡ Number v → (v ≡ field s at w) × (w ≤ widest) × (at + w ≤ 8 * length s)
+takenOf-is s at w v e =
+    let n : (served s at w ≡ true) × (v ≡ field s at w) = number (served s at w) (field s at w) v e in
+    let b : (leb w widest ≡ true) × (within s at w ≡ true) = both (leb w widest) (within s at w) (n .0) in
+    (n .1, leb-true w widest (b .0), within-le s at w (b .1))
+
+-- where the field is served
 module _ (s : List ℕ) (at w : ℕ) (narrow : w ≤ widest) (inside : at + w ≤ 8 * length s) where
   pub served-true : served s at w ≡ true
   served-true = rw (le-leb w widest narrow) (le-leb (at + w) (8 * length s) inside)

@@ -19,7 +19,7 @@ fn wide(x: u8) -> u64
     x as u64
 }
 
-// Counts in bytes, since at + width can be past the largest usize.
+// Whether the width bits from bit at are all there. Counts in bytes, since at + width can be past the largest usize.
 pub fn holds(s: &[u8], at: usize, width: usize) -> bool
     ensures { λ r. ⌜ r ≡ within (now (s .entry)) at width ⌝ }
 {
@@ -36,6 +36,7 @@ fn bit_at(s: &[u8], at: usize, k: usize) -> u64
     (wide(s[at / 8 + i / 8]) >> (7 - i % 8)) % 2
 }
 
+// The number in the field.
 fn gather(s: &[u8], at: usize, width: usize) -> u64
     requires { ⌜ width ≤ widest ⌝ }
     requires { ⌜ at + width ≤ 8 * length (now s) ⌝ }
@@ -48,6 +49,7 @@ fn gather(s: &[u8], at: usize, width: usize) -> u64
     n
 }
 
+// The number in the width bits from bit at.
 pub fn read(s: &[u8], at: usize, width: usize) -> Taken
     ensures { λ r. ⌜ r ≡ takenOf (now (s .entry)) at width ⌝ }
 {
@@ -60,6 +62,7 @@ pub fn read(s: &[u8], at: usize, width: usize) -> Taken
     Taken::Number(gather(s, at, width))
 }
 
+// Puts bit at + k to b: its old value is taken away from the byte, and the new one is added.
 fn put_bit(s: &mut [u8], at: usize, k: usize, b: u64)
     requires { ⌜ k < widest ⌝ }
     requires { ⌜ at + k < 8 * length (now s) ⌝ }
@@ -73,6 +76,7 @@ fn put_bit(s: &mut [u8], at: usize, k: usize, b: u64)
     s[n] = (x - (((x >> place) % 2) << place) + (b << place)) as u8;
 }
 
+// Writes the number to the field, its highest bit first.
 fn scatter(s: &mut [u8], at: usize, width: usize, number: u64)
     requires { ⌜ width ≤ widest ⌝ }
     requires { ⌜ at + width ≤ 8 * length (now s) ⌝ }
@@ -83,6 +87,7 @@ fn scatter(s: &mut [u8], at: usize, width: usize, number: u64)
     }
 }
 
+// Writes the number to the width bits from bit at, and says so; where it cannot, the bytes stay as they are.
 pub fn write(s: &mut [u8], at: usize, width: usize, number: u64) -> bool
     ensures { λ r. ⌜ r ≡ fieldFits (now (s .entry)) at width number ⌝ }
     ensures { λ _. ⌜ now (s .exit) ≡ wroteField (now (s .entry)) at width number ⌝ }

@@ -1,7 +1,6 @@
 -- `bits::put_bit` meets its contract: to take the old digit away and to add the new one is to put it there.
 -- Assumes nothing.
 use mathlib.Core.Path.{_≡_, sym, ap, ap₂, _∙_}
-use mathlib.Core.List.{List}
 use Prim.Native.Nat.{ℕ, _+_, _-_, _*_, _/_, _%_, _^_, _≤_, _<_}
 use native.Mathlib.Nat.{div-mul-le-self, mul-le-mul-right, mod-le}
 use native.Mathlib.Omega.{arith}
@@ -17,14 +16,14 @@ use Rattle.bits.proofs.put_bit.Tie as tie
 shifted : (b k : ℕ) → b < 2 → k < 8 → b * 2 ^ k % 2 ^ 64 ≡ b * 2 ^ k
 shifted b k two l = shl-exact 1 k 64 two (omega arith)
 
-module _ (x k b : ℕ) (two : b < 2) (l : k < 8) where
+module _ (x k : ℕ) (l : k < 8) where
   old-le : x / 2 ^ k % 2 * 2 ^ k % 2 ^ 64 ≤ x
   old-le =
       omega
       (arith, shifted (x / 2 ^ k % 2) k (omega arith) l, mul-le-mul-right (2 ^ k) (mod-le (x / 2 ^ k) 2), div-mul-le-self x (2 ^ k))
 
-  coded : x - x / 2 ^ k % 2 * 2 ^ k % 2 ^ 64 + b * 2 ^ k % 2 ^ 64 ≡ byteWith x k b
-  coded = rw (shifted (x / 2 ^ k % 2) k (omega arith) l, shifted b k two l) (sym (byte-moved x k b two))
+  coded : (b : ℕ) → b < 2 → x - x / 2 ^ k % 2 * 2 ^ k % 2 ^ 64 + b * 2 ^ k % 2 ^ 64 ≡ byteWith x k b
+  coded b two = rw (shifted (x / 2 ^ k % 2) k (omega arith) l, shifted b k two l) (sym (byte-moved x k b two))
 
 module _ (c : tie.After-wide) where
   abbrev st : tie.Start
@@ -33,8 +32,13 @@ module _ (c : tie.After-wide) where
   abbrev place : ℕ
   place = 7 - (st .args .at % 8 + st .args .k) % 8
 
-  byte : c .wide .result < 256
-  byte = omega (arith, c .before .slice-known2 .given (st .args .at / 8 + (st .args .at % 8 + st .args .k) / 8))
+  made : c .wide .result - c .wide .result / 2 ^ place % 2 * 2 ^ place % 2 ^ 64 + st .args .b * 2 ^ place % 2 ^ 64 ≡ byteWith (c .wide .result) place (st .args .b)
+  made = coded (c .wide .result) place (omega arith) (st .args .b) (omega arith)
+
+  byte : byteWith (c .wide .result) place (st .args .b) < 256
+  byte =
+      byte-lt (c .wide .result) place (st .args .b) (omega arith) (omega arith)
+      (omega (arith, c .before .slice-known2 .given (st .args .at / 8 + (st .args .at % 8 + st .args .k) / 8)))
 
 add-i : tie.Need-add-i
 add-i c = omega arith
@@ -58,26 +62,16 @@ shl-s : tie.Need-shl-s
 shl-s c = omega arith
 
 sub-s : tie.Need-sub-s
-sub-s c = old-le (c .wide .result) (place c) (st c .args .b) (omega arith) (omega arith)
+sub-s c = omega (arith, old-le (c .wide .result) (place c) (omega arith))
 
 shl-s-2 : tie.Need-shl-s-2
 shl-s-2 c = omega arith
 
 add-s : tie.Need-add-s
-add-s c =
-    omega (
-      arith,
-      coded (c .wide .result) (place c) (st c .args .b) (omega arith) (omega arith),
-      byte-lt (c .wide .result) (place c) (st c .args .b) (omega arith) (omega arith) (byte c),
-    )
+add-s c = omega (arith, made c, byte c)
 
 cast-s : tie.Need-cast-s
-cast-s c =
-    omega (
-      arith,
-      coded (c .wide .result) (place c) (st c .args .b) (omega arith) (omega arith),
-      byte-lt (c .wide .result) (place c) (st c .args .b) (omega arith) (omega arith) (byte c),
-    )
+cast-s c = omega (arith, made c, byte c)
 
 slice-write-s : tie.Need-slice-write-s
 slice-write-s c = omega arith
@@ -87,10 +81,10 @@ same-length c = search needs
 
 returns : tie.Need-returns
 returns c =
-    let s : List ℕ = st c .args .s .now in
-    let n : ℕ = st c .args .at / 8 + (st c .args .at % 8 + st c .args .k) / 8 in
-    ap (λ (y : ℕ). set s n y) (coded (c .wide .result) (place c) (st c .args .b) (omega arith) (omega arith) ∙ ap (λ (y : ℕ). byteWith y (place c) (st c .args .b)) (c .wide .ensures))
-    ∙ sym (putBit-from s (st c .args .at) (st c .args .k) (st c .args .b))
+    let a = st c .args in
+    ap₂ (λ (n y : ℕ). set (a .s .now) n y) (omega arith)
+    (omega (arith, made c, ap (λ (x : ℕ). byteWith x (place c) (a .b)) (c .wide .ensures)))
+    ∙ sym (putBit-from (a .s .now) (a .at) (a .k) (a .b))
 
 pub put-bit-spec : {M : Type 1} → statement M
 put-bit-spec =

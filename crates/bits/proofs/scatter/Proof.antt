@@ -1,8 +1,8 @@
 -- `bits::scatter` meets its contract. The loop's invariant: the first k bits hold the number less its last width - k bits.
 -- Assumes nothing.
-use mathlib.Core.Path.{_≡_, refl, ap, ap₂, _∙_}
+use mathlib.Core.Path.{_≡_, refl, sym, ap, ap₂, _∙_}
 use mathlib.Core.List.{List}
-use Prim.Native.Nat.{ℕ, _+_, _-_, _*_, _/_, _%_, _≤_, _<_, _^_}
+use Prim.Native.Nat.{ℕ, _+_, _-_, _/_, _%_, _≤_, _^_}
 use native.Mathlib.Nat.{div-one}
 use native.Mathlib.Numerals.{add-one}
 use native.Mathlib.Omega.{arith}
@@ -23,14 +23,13 @@ same : (c : tie.At-loop Inv-loop μ-loop) → length (c .loop .s) ≡ length (c 
 same c = ap length (c .loop .inv .1) ∙ simp length-putField
 
 -- one more bit of the number
-more : (s : List ℕ) (at w v k : ℕ) → k < w
-    → putBit (putField s at k (v / 2 ^ (w - k))) (at + k) (v / 2 ^ (w - 1 - k) % 2) ≡ putField s at (k + 1) (v / 2 ^ (w - (k + 1)))
+more : (s₀ : List ℕ) (at w v k i j : ℕ) {s t : List ℕ} → s ≡ putField s₀ at k (v / 2 ^ (w - k)) → t ≡ putBit s i (v / 2 ^ j % 2)
+    → i ≡ at + k → j + (k + 1) ≡ w → t ≡ putField s₀ at (k + 1) (v / 2 ^ (w - (k + 1)))
 unfolding putField
-more s at w v k l =
-    let e : w - (k + 1) + 1 ≡ w - k = omega arith in
-    let d : w - 1 - k ≡ w - (k + 1) = omega arith in
-    let q : v / 2 ^ (w - (k + 1)) / 2 ≡ v / 2 ^ (w - k) = shr-shr v (w - (k + 1)) 1 ∙ ap (λ (m : ℕ). v / 2 ^ m) e in
-    rw (d, ← q, add-one)
+more s₀ at w v k i j p q ei ej =
+    let d : w - (k + 1) ≡ j = omega arith in
+    let h : v / 2 ^ (w - k) ≡ v / 2 ^ j / 2 = ap (λ (m : ℕ). v / 2 ^ m) (omega arith) ∙ sym (shr-shr v j 1) in
+    q ∙ rw (ei, p, d, h, add-one)
 
 loop-holds : tie.Need-loop-holds Inv-loop μ-loop
 unfolding putField
@@ -57,11 +56,11 @@ loop-less c = omega arith
 loop-again : tie.Need-loop-again Inv-loop μ-loop
 loop-again c =
     let lp = c .before .before .before .before .before in
-    let a = lp .before .before .args in
-    let step : putBit (lp .loop .s) (a .at + lp .loop .k) (a .number / 2 ^ (a .width - 1 - lp .loop .k) % 2) ≡ putField (a .s .now) (a .at) (lp .loop .k + 1) (a .number / 2 ^ (a .width - (lp .loop .k + 1)))
-    = ap (λ (s : List ℕ). putBit s (a .at + lp .loop .k) (a .number / 2 ^ (a .width - 1 - lp .loop .k) % 2)) (lp .loop .inv .1)
-    ∙ more (a .s .now) (a .at) (a .width) (a .number) (lp .loop .k) (omega arith) in
-    (omega arith, c .before .before .put-bit .ensures ∙ step)
+    let a = lp .before .before .args in (
+      omega arith,
+      more (a .s .now) (a .at) (a .width) (a .number) (lp .loop .k) _ _ (lp .loop .inv .1) (c .before .before .put-bit .ensures)
+          (omega arith) (omega arith),
+    )
 
 same-length : tie.Need-same-length Inv-loop μ-loop
 same-length c = same (c .before)

@@ -1,9 +1,9 @@
 -- `bits::write` meets its contract: each return by the tests that led there.
 -- Assumes nothing.
-use mathlib.Core.Path.{_≡_, refl, sym, _∙_}
+use mathlib.Core.Path.{_≡_, refl, sym, ap, _∙_}
 use mathlib.Core.Bool.{false}
 use Prim.Native.Nat.{ℕ, _+_, _*_, _/_, _^_, _≤_, _<_}
-use native.Mathlib.Nat.{div-lt-iff-lt-mul, div-eq-of-lt}
+use native.Mathlib.Nat.{div-eq-of-lt, lt-div-mul-add}
 use native.Mathlib.Decide.{decLt}
 use native.Mathlib.Omega.{arith}
 use lib.ListN.{length}
@@ -14,10 +14,6 @@ use Rattle.bits.specs.Field.{widest, within}
 use Rattle.bits.proofs.Laws.{within-le, served-true, fieldFits-true, wroteField-put}
 use Rattle.bits.proofs.write.Statement.{statement}
 use Rattle.bits.proofs.write.Tie as tie
-
--- a number is below 2 ^ w just when nothing is left of it beyond w bits
-below : (v w : ℕ) → v / 2 ^ w ≡ 0 → v < 2 ^ w
-below v w e = omega (arith, div-lt-iff-lt-mul {x = v} {y = 1} (pow-pos w) .0 (omega arith))
 
 beyond : (v w : ℕ) → (v / 2 ^ w ≡ 0 → ⊥) → 2 ^ w ≤ v
 beyond v w ne = elim (decLt v (2 ^ w)) [ yes l ↦ absurd (ne (div-eq-of-lt l)) | no o ↦ omega arith ]
@@ -71,7 +67,8 @@ returns-4 : tie.Need-returns-4
 returns-4 c =
     let e = c .before .before .before .before in
     let a = st (e .before) .args in
-    let l : a .number < 2 ^ a .width = below (a .number) (a .width) (e .if3 .left) in (
+    let l : a .number < 2 ^ a .width = omega
+    (arith, lt-div-mul-add {a = a .number} (pow-pos (a .width)), ap (λ (q : ℕ). q * 2 ^ a .width) (e .if3 .left)) in (
       sym (fieldFits-true (a .s .now) (a .at) (a .width) (omega arith) (inside (e .before)) (a .number) l),
       c .before .before .scatter .ensures ∙ sym (wroteField-put (a .s .now) (a .at) (a .width) (omega arith) (inside (e .before)) (a .number) l),
     )
