@@ -6,3 +6,7 @@ pub mod Sound
 pub mod Prices
 pub mod Replies
 pub mod OneReply
+pub mod Tests
+pub mod ReadingLaws
+pub mod JudgementLaws
+pub mod Incident

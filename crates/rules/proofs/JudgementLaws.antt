@@ -1,0 +1,82 @@
+-- What the judgement says, in plain facts.
+use mathlib.Core.Path.{_≡_}
+use mathlib.Core.Logic.{_⊎_, inl, inr}
+use mathlib.Core.List.{List, [], _∷_}
+use Prim.Native.Nat.{ℕ, _*_, _≤_, _<_}
+use lib.Dec.{leb}
+use Rattle.rules.specs.Replies.{Reply, granted, refused, test}
+use Rattle.rules.specs.Table.{View, viewOf}
+use Rattle.rules.specs.Reading.{readingTests, reading}
+use Rattle.rules.specs.Bounds.{load, backlog, endToEnd}
+use Rattle.rules.specs.Judgement.{loadTest, roomTest, deadlineTest, boundsTests, lengthOf, judge}
+use Rattle.rules.proofs.Tests.{Gate, through, stops, gate-granted, gate-through, gate-iff, gate-then, le-gate, all-gate}
+use Rattle.rules.proofs.Sound.{Sound}
+use Rattle.rules.proofs.ReadingLaws.{Passes, passes-sound, reading-gate, reading-refused}
+
+-- 12 to 14
+pub record Bounded (t : View) : Type 0 where
+  pub loads : (w : ℕ) → w < t .wires → load t w ≤ t .rate w * t .hyper
+  pub backlogs : (w : ℕ) → w < t .wires → backlog t w ≤ t .room w
+  pub ends : (k : ℕ) → k < t .channels → endToEnd t k ≤ t .deadline k
+
+pub record Accepted (s : List ℕ) (lent : ℕ) : Type 0 where
+  pub passes : Passes s
+  pub sound : Sound (viewOf s)
+  pub bounded : Bounded (viewOf s)
+  pub fits : lengthOf (viewOf s) ≤ lent
+
+module _ (t : View) where
+  load-gate : (w : ℕ) → Gate (load t w ≤ t .rate w * t .hyper) (loadTest t w)
+  unfolding loadTest
+  load-gate w = le-gate 12 w (load t w) (t .rate w * t .hyper)
+
+  room-gate : (w : ℕ) → Gate (backlog t w ≤ t .room w) (roomTest t w)
+  unfolding roomTest
+  room-gate w = le-gate 13 w (backlog t w) (t .room w)
+
+  deadline-gate : (k : ℕ) → Gate (endToEnd t k ≤ t .deadline k) (deadlineTest t k)
+  unfolding deadlineTest
+  deadline-gate k = le-gate 14 k (endToEnd t k) (t .deadline k)
+
+  pub bounds-gate : Gate (Bounded t) (boundsTests t)
+  unfolding boundsTests
+  bounds-gate =
+      gate-iff (λ h. record { loads = h .0; backlogs = h .1 .0; ends = h .1 .1 }) (λ r. (r .loads, (r .backlogs, r .ends)))
+      (gate-then (all-gate (λ w. load t w ≤ t .rate w * t .hyper) (loadTest t) load-gate (t .wires))
+      (gate-then (all-gate (λ w. backlog t w ≤ t .room w) (roomTest t) room-gate (t .wires))
+      (all-gate (λ k. endToEnd t k ≤ t .deadline k) (deadlineTest t) deadline-gate (t .channels))))
+
+-- all tests of the judgement
+abbrev pub judgeTests : List ℕ → ℕ → Reply → Reply
+judgeTests s lent rest = readingTests s (boundsTests (viewOf s) (test (leb (lengthOf (viewOf s)) lent) 15 0 rest))
+
+module _ (s : List ℕ) (lent : ℕ) where
+  pub judge-gate : Gate (Accepted s lent) (judgeTests s lent)
+  judge-gate =
+      gate-iff
+      (λ h. record { passes = h .0; sound = passes-sound s (h .0 .fields); bounded = h .1 .0; fits = h .1 .1 })
+      (λ r. (r .passes, (r .bounded, r .fits)))
+      (gate-then (reading-gate s) (gate-then (bounds-gate (viewOf s)) (le-gate 15 0 _ _)))
+
+  pub judge-accepted : (len : ℕ) → judge s lent ≡ granted (len ∷ []) → Accepted s lent × (len ≡ lengthOf (viewOf s))
+  unfolding judge
+  judge-accepted len e =
+      let g = gate-granted judge-gate (granted (lengthOf (viewOf s) ∷ [])) (len ∷ []) e in
+      (g .0, cc (g .1))
+
+  pub accepted-judge : Accepted s lent → judge s lent ≡ granted (lengthOf (viewOf s) ∷ [])
+  unfolding judge
+  accepted-judge r = gate-through judge-gate r (granted (lengthOf (viewOf s) ∷ []))
+
+  -- there is no third reply
+  pub judge-cases : (judge s lent ≡ granted (lengthOf (viewOf s) ∷ [])) ⊎ ((n : ℕ) × (p : ℕ) × (judge s lent ≡ refused n p))
+  unfolding judge
+  judge-cases = elim judge-gate [
+    | through h e ↦ inl (e _)
+    | stops h n p e ↦ inr (n, p, e _)
+  ]
+
+  -- what is refused in reading is refused in judging
+  pub judge-refused : (n p : ℕ) → reading s ≡ refused n p → judge s lent ≡ refused n p
+  unfolding judge
+  judge-refused n p e = reading-refused s n p e _
