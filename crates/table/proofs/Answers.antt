@@ -1,0 +1,15 @@
+-- A stage's answer, by what its tests do.
+use mathlib.Core.Path.{_≡_}
+use Prim.Native.Nat.{ℕ}
+use Rattle.rules.specs.declared.Reading.{Reading}
+use Rattle.rules.specs.declared.Reading.the-variants as answer
+use Rattle.rules.specs.Replies.{Reply}
+use Rattle.rules.proofs.Tests.{Stops}
+use Rattle.table.specs.Stages.{after, IfRead}
+
+-- what a stage's contract says: its tests f, and what holds of what it read
+abbrev pub Answers : (Reply → Reply) → Type 0 → Reading → Type 0
+Answers f P a = ((rest : Reply) → f rest ≡ after a rest) × IfRead a P
+
+pub refusal : {f : Reply → Reply} (P : Type 0) (a : Reading) (n p : ℕ) → a ≡ answer.Refused n p → Stops f n p → Answers f P a
+refusal P a n p e h = rw e (h, tt)

@@ -1,0 +1,120 @@
+// Reading a table: tests 1 to 11 in one pass, each field read once.
+ghost use mathlib.Core.Path.{_≡_};
+ghost use Prim.Native.Nat.{_+_, _*_, _≤_, _<_};
+ghost use lib.ListN.{length};
+ghost use Rattle.bits.specs.Field.{field, widest};
+ghost use Rattle.rules.specs.Numbers.{wiresMost, channelsMost, payloadMost, tableLongest};
+ghost use Rattle.rules.specs.Replies.{Reply, readingReply, each};
+ghost use Rattle.rules.specs.Price.{price as priceOf};
+ghost use Rattle.rules.specs.Table.{viewOf, hyperOf, wiresOf, endOf};
+ghost use Rattle.rules.specs.Reading.{headTests, wireTests, channelTests, recordTests, fillingTests, reading};
+ghost use Rattle.rules.specs.Decoded.{tableLeft, noTable};
+ghost use Rattle.table.specs.Stages.{after, IfRead, HeadRead, WiresRead, FixedRead, ChannelsRead, hopsLeft};
+use bits::Taken;
+use rules::Pricing;
+use rules::Reading;
+use rules::Table;
+use rules::TableRead;
+
+struct Head {
+    answer: Reading,
+    hyper: u64,
+    wires: usize,
+    channels: usize,
+}
+
+struct Wires {
+    answer: Reading,
+    rate: [u64; Table::WIRES_MOST],
+    prop: [u64; Table::WIRES_MOST],
+    room: [u64; Table::WIRES_MOST],
+}
+
+// Of one channel's record, what its fixed fields tell.
+struct Fixed {
+    answer: Reading,
+    price: u64,
+    times: u64,
+    deadline: u64,
+    hops: usize,
+}
+
+struct Channels {
+    answer: Reading,
+    end: usize,
+    price: [u64; Table::CHANNELS_MOST],
+    times: [u64; Table::CHANNELS_MOST],
+    deadline: [u64; Table::CHANNELS_MOST],
+    hops: [u8; Table::CHANNELS_MOST],
+    route: [u8; Table::ROUTES_MOST],
+}
+
+// A field whose bits are all there.
+fn field_at(s: &[u8], at: usize, width: usize) -> u64
+    requires { ⌜ width ≤ widest ⌝ }
+    requires { ⌜ at + width ≤ 8 * length (now s) ⌝ }
+    ensures { λ r. ⌜ r ≡ field (now (s .entry)) at width ⌝ }
+{
+    match bits::read(s, at, width) {
+        Taken::Number(n) => n,
+        Taken::Nothing => 0,
+    }
+}
+
+fn price_of(framing: u64, payload: u64) -> u64
+    requires { ⌜ (framing < 2) × (1 ≤ payload) × (payload ≤ payloadMost) ⌝ }
+    ensures { λ r. ⌜ r ≡ priceOf framing payload ⌝ }
+{
+    match framing::price(framing, payload) {
+        Pricing::Price(p) => p,
+        Pricing::Refused(_, _) => 0,
+    }
+}
+
+fn no_head(number: u64) -> Head
+    ensures { λ r. ⌜ r .answer ≡ Reading.Refused number 0 ⌝ }
+{
+    Head {
+        answer: Reading::Refused(number, 0),
+        hyper: 0,
+        wires: 0,
+        channels: 0,
+    }
+}
+
+// The three header fields are read whole before 2, 3, 4.
+fn head_of(s: &[u8]) -> Head
+    ensures { λ r. ⌜ ((rest : Reply) → headTests (now (s .entry)) rest ≡ after (r .answer) rest) ⌝ }
+    ensures { λ r. ⌜ IfRead (r .answer) (HeadRead (now (s .entry)) r) ⌝ }
+{
+    if !bits::holds(s, 0, Table::HEAD_BITS) {
+        return no_head(1);
+    }
+    let hyper = field_at(s, 0, Table::HYPER_BITS);
+    let wires = field_at(s, Table::HYPER_BITS, Table::WIRES_BITS) as usize;
+    let channels = field_at(s, Table::HYPER_BITS + Table::WIRES_BITS, Table::CHANNELS_BITS) as usize;
+    if hyper < 1 {
+        return no_head(2);
+    }
+    if (Table::HYPER_MOST as u64) < hyper {
+        return no_head(2);
+    }
+    if wires < 1 {
+        return no_head(3);
+    }
+    if Table::WIRES_MOST < wires {
+        return no_head(3);
+    }
+    if channels < 1 {
+        return no_head(4);
+    }
+    if Table::CHANNELS_MOST < channels {
+        return no_head(4);
+    }
+    Head {
+        answer: Reading::Read,
+        hyper,
+        wires,
+        channels,
+    }
+}
