@@ -4,7 +4,7 @@ use Prim.Native.Nat.{ℕ}
 use Rattle.rules.specs.declared.Reading.{Reading}
 use Rattle.rules.specs.declared.Reading.the-variants as answer
 use Rattle.rules.specs.Replies.{Reply}
-use Rattle.rules.proofs.Tests.{Stops}
+use Rattle.rules.proofs.Tests.{Through, Stops}
 use Rattle.table.specs.Stages.{after, IfRead}
 
 -- what a stage's contract says: its tests f, and what holds of what it read
@@ -13,3 +13,6 @@ Answers f P a = ((rest : Reply) → f rest ≡ after a rest) × IfRead a P
 
 pub refusal : {f : Reply → Reply} (P : Type 0) (a : Reading) (n p : ℕ) → a ≡ answer.Refused n p → Stops f n p → Answers f P a
 refusal P a n p e h = rw e (h, tt)
+
+pub passage : {f : Reply → Reply} (P : Type 0) (a : Reading) → a ≡ answer.Read → Through f → P → Answers f P a
+passage P a e h p = rw e (h, p)

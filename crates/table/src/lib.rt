@@ -118,3 +118,37 @@ fn head_of(s: &[u8]) -> Head
         channels,
     }
 }
+
+// Each wire record is read whole before 5.
+fn wires_of(s: &[u8], n: usize) -> Wires
+    requires { ⌜ n ≤ wiresMost ⌝ }
+    ensures { λ r. ⌜ ((rest : Reply) → each (wireTests (now (s .entry))) 0 n rest ≡ after (r .answer) rest) ⌝ }
+    ensures { λ r. ⌜ IfRead (r .answer) (WiresRead (now (s .entry)) n r) ⌝ }
+{
+    let mut found = Reading::Read;
+    let mut rate = [0u64; Table::WIRES_MOST];
+    let mut prop = [0u64; Table::WIRES_MOST];
+    let mut room = [0u64; Table::WIRES_MOST];
+    for w in 0..n {
+        let at = Table::HEAD_BITS + Table::WIRE_BITS * w;
+        if !bits::holds(s, at, Table::WIRE_BITS) {
+            found = Reading::Refused(1, 0);
+            break;
+        }
+        // No code has the rate 0.
+        let bytes = framing::rate(field_at(s, at, Table::RATE_BITS));
+        if bytes == 0 {
+            found = Reading::Refused(5, w as u64);
+            break;
+        }
+        rate[w] = bytes;
+        prop[w] = field_at(s, at + Table::RATE_BITS, Table::PROP_BITS);
+        room[w] = field_at(s, at + Table::RATE_BITS + Table::PROP_BITS, Table::ROOM_BITS);
+    }
+    Wires {
+        answer: found,
+        rate,
+        prop,
+        room,
+    }
+}
