@@ -7,12 +7,12 @@ use Rattle.rules.specs.Replies.{Reply}
 use Rattle.rules.proofs.Tests.{Through, Stops}
 use Rattle.table.specs.Stages.{after, IfRead}
 
--- what a stage's contract says: its tests f, and what holds of what it read
-abbrev pub Answers : (Reply → Reply) → Type 0 → Reading → Type 0
-Answers f P a = ((rest : Reply) → f rest ≡ after a rest) × IfRead a P
+-- what a stage's contract says: its tests f, what is left of them where they pass, and what holds of what it read
+abbrev pub Answers : (Reply → Reply) → (Reply → Reply) → Type 0 → Reading → Type 0
+Answers f left P a = ((rest : Reply) → f rest ≡ after a (left rest)) × IfRead a P
 
-pub refusal : {f : Reply → Reply} (P : Type 0) (a : Reading) (n p : ℕ) → a ≡ answer.Refused n p → Stops f n p → Answers f P a
-refusal P a n p e h = rw e (h, tt)
+pub refusal : {f : Reply → Reply} (left : Reply → Reply) (P : Type 0) (a : Reading) (n p : ℕ) → a ≡ answer.Refused n p → Stops f n p → Answers f left P a
+refusal left P a n p e h = rw e (h, tt)
 
-pub passage : {f : Reply → Reply} (P : Type 0) (a : Reading) → a ≡ answer.Read → Through f → P → Answers f P a
+pub passage : {f : Reply → Reply} (P : Type 0) (a : Reading) → a ≡ answer.Read → Through f → P → Answers f (λ rest. rest) P a
 passage P a e h p = rw e (h, p)

@@ -152,3 +152,59 @@ fn wires_of(s: &[u8], n: usize) -> Wires
         room,
     }
 }
+
+fn no_fixed(number: u64, place: u64) -> Fixed
+    ensures { λ r. ⌜ r .answer ≡ Reading.Refused number place ⌝ }
+{
+    Fixed {
+        answer: Reading::Refused(number, place),
+        price: 0,
+        times: 0,
+        deadline: 0,
+        hops: 0,
+    }
+}
+
+// Channel c's fixed bits, from bit at, are read whole before 6, 7, 8; then its route's bits have to be there.
+fn fixed_of(s: &[u8], hyper: u64, c: usize, at: usize) -> Fixed
+    requires { ⌜ hyper ≡ hyperOf (now s) ⌝ }
+    requires { ⌜ at ≤ 8 * tableLongest ⌝ }
+    ensures { λ r. ⌜ ((rest : Reply) → recordTests (now (s .entry)) c at rest ≡ after (r .answer) (hopsLeft (now (s .entry)) c at rest)) ⌝ }
+    ensures { λ r. ⌜ IfRead (r .answer) (FixedRead (now (s .entry)) at r) ⌝ }
+{
+    let place = c as u64;
+    if !bits::holds(s, at, Table::FIXED_BITS) {
+        return no_fixed(1, 0);
+    }
+    let payload_at = at + Table::FRAMING_BITS;
+    let period_at = payload_at + Table::PAYLOAD_BITS;
+    let deadline_at = period_at + Table::PERIOD_BITS;
+    let payload = field_at(s, payload_at, Table::PAYLOAD_BITS);
+    let period = field_at(s, period_at, Table::PERIOD_BITS);
+    let hops = field_at(s, deadline_at + Table::DEADLINE_BITS, Table::HOPS_BITS) as usize;
+    if payload == 0 {
+        return no_fixed(6, place);
+    }
+    if period == 0 {
+        return no_fixed(7, place);
+    }
+    if hyper % period != 0 {
+        return no_fixed(7, place);
+    }
+    if hops < 1 {
+        return no_fixed(8, place);
+    }
+    if Table::HOPS_MOST < hops {
+        return no_fixed(8, place);
+    }
+    if !bits::holds(s, at + Table::FIXED_BITS, Table::HOP_BITS * hops) {
+        return no_fixed(1, 0);
+    }
+    Fixed {
+        answer: Reading::Read,
+        price: price_of(field_at(s, at, Table::FRAMING_BITS), payload),
+        times: hyper / period,
+        deadline: field_at(s, deadline_at, Table::DEADLINE_BITS),
+        hops,
+    }
+}

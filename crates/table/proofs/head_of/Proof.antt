@@ -24,7 +24,7 @@ returns : tie.Need-returns
 returns c =
     let holds = c .before .before .holds in
     let s = c .before .before .before .before .args .s .now in
-    refusal _ _ 1 0 (c .no-head .ensures)
+    refusal _ _ _ 1 0 (c .no-head .ensures)
     (head-1 s (leb-false _ _ (sym (holds .ensures) ∙ not-true (holds .result) (c .before .if1 .taken))))
 
 inside : (c : tie.Else1) → headBits ≤ 8 * length (c .before .before .before .args .s .now)
@@ -67,7 +67,7 @@ no-head-requires-2 c κs = search needs
 returns-2 : tie.Need-returns-2
 returns-2 c =
     let f = c .before .before in
-    refusal _ _ 2 0 (c .no-head2 .ensures) (head-2 (s f) (there f) (inl (omega (arith, hyper f))))
+    refusal _ _ _ 2 0 (c .no-head2 .ensures) (head-2 (s f) (there f) (inl (omega (arith, hyper f))))
 
 no-head-requires-3 : tie.Need-no-head-requires-3
 no-head-requires-3 c κs = search needs
@@ -75,7 +75,7 @@ no-head-requires-3 c κs = search needs
 returns-3 : tie.Need-returns-3
 returns-3 c =
     let f = c .before .before .before in
-    refusal _ _ 2 0 (c .no-head3 .ensures) (head-2 (s f) (there f) (inr (omega (arith, hyper f))))
+    refusal _ _ _ 2 0 (c .no-head3 .ensures) (head-2 (s f) (there f) (inr (omega (arith, hyper f))))
 
 no-head-requires-4 : tie.Need-no-head-requires-4
 no-head-requires-4 c κs = search needs
@@ -83,7 +83,7 @@ no-head-requires-4 c κs = search needs
 returns-4 : tie.Need-returns-4
 returns-4 c =
     let f = c .before .before .before .before in
-    refusal _ _ 3 0 (c .no-head4 .ensures)
+    refusal _ _ _ 3 0 (c .no-head4 .ensures)
     (head-3 (s f) (there f) (omega (arith, hyper f)) (inl (omega (arith, wires f))))
 
 no-head-requires-5 : tie.Need-no-head-requires-5
@@ -92,7 +92,7 @@ no-head-requires-5 c κs = search needs
 returns-5 : tie.Need-returns-5
 returns-5 c =
     let f = c .before .before .before .before .before in
-    refusal _ _ 3 0 (c .no-head5 .ensures)
+    refusal _ _ _ 3 0 (c .no-head5 .ensures)
     (head-3 (s f) (there f) (omega (arith, hyper f)) (inr (omega (arith, wires f))))
 
 no-head-requires-6 : tie.Need-no-head-requires-6
@@ -101,7 +101,7 @@ no-head-requires-6 c κs = search needs
 returns-6 : tie.Need-returns-6
 returns-6 c =
     let f = c .before .before .before .before .before .before in
-    refusal _ _ 4 0 (c .no-head6 .ensures)
+    refusal _ _ _ 4 0 (c .no-head6 .ensures)
     (head-4 (s f) (there f) (omega (arith, hyper f)) (omega (arith, wires f)) (inl (omega (arith, channels f))))
 
 no-head-requires-7 : tie.Need-no-head-requires-7
@@ -110,7 +110,7 @@ no-head-requires-7 c κs = search needs
 returns-7 : tie.Need-returns-7
 returns-7 c =
     let f = c .before .before .before .before .before .before .before in
-    refusal _ _ 4 0 (c .no-head7 .ensures)
+    refusal _ _ _ 4 0 (c .no-head7 .ensures)
     (head-4 (s f) (there f) (omega (arith, hyper f)) (omega (arith, wires f)) (inr (omega (arith, channels f))))
 
 returns-8 : tie.Need-returns-8
