@@ -22,3 +22,12 @@ pub mod Sound
 pub mod Sums
 pub mod Tests
 pub mod Witnesses
+pub mod Prices
+pub mod Replies
+pub mod OneReply
+pub mod Tests
+pub mod ReadingLaws
+pub mod JudgementLaws
+pub mod Incident
+pub mod Columns
+pub mod Search
