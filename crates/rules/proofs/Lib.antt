@@ -1,5 +1,6 @@
 pub mod Asking
 pub mod Cases
+pub mod Columns
 pub mod Delays
 pub mod Figures
 pub mod Fits
@@ -16,18 +17,10 @@ pub mod Promised
 pub mod ReadingLaws
 pub mod Replies
 pub mod Routes
+pub mod Search
 pub mod Server
 pub mod SheetLaws
 pub mod Sound
 pub mod Sums
 pub mod Tests
 pub mod Witnesses
-pub mod Prices
-pub mod Replies
-pub mod OneReply
-pub mod Tests
-pub mod ReadingLaws
-pub mod JudgementLaws
-pub mod Incident
-pub mod Columns
-pub mod Search
