@@ -177,7 +177,7 @@ pub filed-stretch : (inside : ℕ → ℕ → Bool) (part : ℕ → ℕ) (m : �
 filed-stretch inside part m list counts loads filed h w l =
     let all : getD counts w 0 ≡ count (inside w) m = next-place inside part m list counts loads (λ w. false) filed w l refl in
     record {
-      fits = omega (arith, filed .list-length, count-most (inside w) m);
+      fits = omega (arith, all, count-most (inside w) m);
       all = all;
       entry = λ j less.
           (let found = placed (inside w) m j (omega (arith, all)) in
@@ -212,9 +212,9 @@ module _ (inside : ℕ → Bool) where
   among-none : (k : ℕ) → among inside 0 k ≡ false
   among-none k = elim (either (inside k)) [ inl e ↦ rw (e, le-ltb (count inside k) 0 (omega arith)) | inr e ↦ rw e ]
 
-  among-all : (m k : ℕ) → k < m → among inside (count inside m) k ≡ inside k
-  among-all m k l = elim (either (inside k)) [
-    | inl e ↦ rw (e, lt-ltb (count inside k) (count inside m) (count-less inside k m e l))
+  among-all : (m j : ℕ) → j ≡ count inside m → (k : ℕ) → k < m → among inside j k ≡ inside k
+  among-all m j all k l = elim (either (inside k)) [
+    | inl e ↦ rw (e, lt-ltb (count inside k) j (omega (arith, count-less inside k m e l)))
     | inr e ↦ rw e
   ]
 
@@ -254,8 +254,8 @@ module _ (inside : ℕ → Bool) where
   pub among-start : (f : ℕ → ℕ) (m : ℕ) → tally (among inside 0) f m ≡ 0
   among-start f m = sum-same _ (λ k. 0) m (λ k l. ap (λ (b : Bool). only b (f k)) (among-none k)) ∙ sum-none m
 
-  pub among-end : (f : ℕ → ℕ) (m : ℕ) → tally (among inside (count inside m)) f m ≡ tally inside f m
-  among-end f m = sum-same _ _ m (λ k l. ap (λ (b : Bool). only b (f k)) (among-all m k l))
+  pub among-end : (f : ℕ → ℕ) (m j : ℕ) → j ≡ count inside m → tally (among inside j) f m ≡ tally inside f m
+  among-end f m j all = sum-same _ _ m (λ k l. ap (λ (b : Bool). only b (f k)) (among-all m j all k l))
 
   module _ (m d : ℕ) (before : List ℕ) where
     pub raised-start : Raised (among inside 0) m d before before
@@ -266,11 +266,11 @@ module _ (inside : ℕ → Bool) where
           kept = λ k l. refl;
         }
 
-    pub raised-end : (after : List ℕ) → Raised (among inside (count inside m)) m d before after → Raised inside m d before after
-    raised-end after r =
+    pub raised-end : (j : ℕ) → j ≡ count inside m → (after : List ℕ) → Raised (among inside j) m d before after → Raised inside m d before after
+    raised-end j all after r =
         record {
           same-length = r .same-length;
-          raised = λ k l. r .raised k l ∙ ap (λ (b : Bool). getD before k 0 + only b d) (among-all m k l);
+          raised = λ k l. r .raised k l ∙ ap (λ (b : Bool). getD before k 0 + only b d) (among-all m j all k l);
           kept = r .kept;
         }
 

@@ -35,7 +35,7 @@ pub record Entry (inside : ℕ → Bool) (m j k : ℕ) : Type 0 where
 
 -- from `first` on, the numbers below m that are in
 pub record Stretch (inside : ℕ → Bool) (m : ℕ) (list : List ℕ) (first number : ℕ) : Type 0 where
-  pub fits : first + number ≤ length list
+  pub fits : first + number ≤ filedMost
   pub all : number ≡ count inside m
   pub entry : (j : ℕ) → j < number → Entry inside m j (getD list (first + j) 0)
 

@@ -120,7 +120,8 @@ fn shares(
     times: &[u64; Table::CHANNELS_MOST],
     jitter: &[u64; Table::CHANNELS_MOST],
 ) -> u64
-    requires { ⌜ (w < wiresMost) × (viewOf (now table) .channels ≤ channelsMost) × (hyper ≡ viewOf (now table) .hyper) ⌝ }
+    requires { ⌜ Sound (viewOf (now table)) ⌝ }
+    requires { ⌜ (w < wiresMost) × (hyper ≡ viewOf (now table) .hyper) ⌝ }
     requires { ⌜ Stretch (on (viewOf (now table)) w) (viewOf (now table) .channels) (now list) (channelsMost * w) count ⌝ }
     requires { ⌜ (now price ≡ column channelsMost (viewOf (now table) .channels) (cost (viewOf (now table)))) × (now times ≡ column channelsMost (viewOf (now table) .channels) (timesOf (viewOf (now table)))) ⌝ }
     requires { ⌜ ((k : ℕ) → k < viewOf (now table) .channels → on (viewOf (now table)) w k ≡ true → getD (now jitter) k 0 ≡ jitterOf (viewOf (now table)) (known (viewOf (now table)) w) w k) ⌝ }
