@@ -1,3 +1,4 @@
 pub mod Filing
 pub mod Walk
 pub mod Told
+pub mod Walking
