@@ -11,9 +11,12 @@ use Rattle.rules.specs.Words.{sum, only, has}
 use Rattle.rules.specs.Numbers.{wiresMost, channelsMost, hopsMost, hyperMost}
 use Rattle.rules.specs.Table.{View, viewOf, roomOf, propOf}
 use Rattle.rules.specs.Bounds.{on, load, jitter, shareOf, backlogAfter, known, backlog, delay, endToEnd}
+use Rattle.rules.specs.Judgement.{roomTest}
 use Rattle.rules.specs.Decoded.{column}
 use Rattle.rules.proofs.Sound.{Climbs, Sound}
 use Rattle.rules.proofs.Delays.{jitter-known}
+use Rattle.rules.proofs.Tests.{Through, Stops, gate-through, le-gate}
+use Rattle.rules.proofs.Search.{le-stops}
 use Rattle.rules.proofs.Columns.{column-none, column-set, column-told, column-at, column-past, column-more, length-column}
 use native.Mathlib.Decide.{ℕ-discrete}
 use Rattle.judge.specs.Filed.{Raised}
@@ -26,6 +29,10 @@ late t x = delay t x - 1
 
 abbrev pub spent : View → ℕ → ℕ
 spent t x = delay t x + t .prop x
+
+-- eight wires whose delays have 24 bits
+abbrev pub jitterMost : ℕ
+jitterMost = 134217728
 
 abbrev pub gathered : View → (ℕ → ℕ) → ℕ → ℕ → ℕ
 gathered t f w k = reach f (t .route k) w
@@ -77,19 +84,23 @@ raised-column places m d f g inside before after h e r next =
     (λ k l p. r .kept k l ∙ at k ∙ column-past places f m k l p)
 
 module _ (t : View) (loaded : Loaded t) (w : ℕ) (backlogs delays jitters ends : List ℕ) (here : Walking t w backlogs delays jitters ends) where
-  gathered-next : (f : ℕ → ℕ) (k : ℕ) → k < t .channels → gathered t f (w + 1) k ≡ gathered t f w k + only (on t w k) (f w)
-  gathered-next f k l = reach-next f (t .wires) 0 w (t .route k) (loaded .sound .climbs k l)
+  gathered-next : (f : ℕ → ℕ) (d : ℕ) → d ≡ f w → (k : ℕ) → k < t .channels → gathered t f (w + 1) k ≡ gathered t f w k + only (on t w k) d
+  gathered-next f d e k l =
+      reach-next f (t .wires) 0 w (t .route k) (loaded .sound .climbs k l) ∙ ap (λ (x : ℕ). gathered t f w k + only (on t w k) x) (sym e)
 
-  pub walking-next : w < t .wires → backlog t w ≤ t .room w → (jitters' ends' : List ℕ)
-      → Raised (on t w) (t .channels) (late t w) jitters jitters' → Raised (on t w) (t .channels) (spent t w) ends ends'
-      → Walking t (w + 1) (set backlogs w (backlog t w)) (set delays w (delay t w)) jitters' ends'
-  walking-next l room jitters' ends' j e =
+  -- with the wire's backlog x and delay y, and what it adds
+  pub walking-next : w < t .wires → backlog t w ≤ t .room w
+      → (x y more-jitter more-delay : ℕ) → x ≡ backlog t w → y ≡ delay t w → more-jitter ≡ late t w → more-delay ≡ spent t w
+      → (jitters' ends' : List ℕ) → Raised (on t w) (t .channels) more-jitter jitters jitters' → Raised (on t w) (t .channels) more-delay ends ends'
+      → Walking t (w + 1) (set backlogs w x) (set delays w y) jitters' ends'
+  walking-next l room x y more-jitter more-delay ex ey ej ee jitters' ends' j e =
       let most = loaded .sound .channels-most in
+      let small : w < wiresMost = omega (arith, loaded .sound .wires-most) in
       record {
-        backlogs-told = ap (λ (a : List ℕ). set a w (backlog t w)) (here .backlogs-told) ∙ column-set wiresMost (backlog t) w _ (omega (arith, loaded .sound .wires-most)) refl;
-        delays-told = ap (λ (a : List ℕ). set a w (delay t w)) (here .delays-told) ∙ column-set wiresMost (delay t) w _ (omega (arith, loaded .sound .wires-most)) refl;
-        jitters-told = raised-column channelsMost (t .channels) (late t w) _ _ (on t w) jitters jitters' most (here .jitters-told) j (gathered-next (late t));
-        ends-told = raised-column channelsMost (t .channels) (spent t w) _ _ (on t w) ends ends' most (here .ends-told) e (gathered-next (spent t));
+        backlogs-told = ap (λ (a : List ℕ). set a w x) (here .backlogs-told) ∙ column-set wiresMost (backlog t) w x small ex;
+        delays-told = ap (λ (a : List ℕ). set a w y) (here .delays-told) ∙ column-set wiresMost (delay t) w y small ey;
+        jitters-told = raised-column channelsMost (t .channels) more-jitter _ _ (on t w) jitters jitters' most (here .jitters-told) j (gathered-next (late t) more-jitter ej);
+        ends-told = raised-column channelsMost (t .channels) more-delay _ _ (on t w) ends ends' most (here .ends-told) e (gathered-next (spent t) more-delay ee);
         passed = λ x less. elim (ℕ-discrete x w) [
           | yes q ↦ rw q room
           | no o ↦ here .passed x (omega arith)
@@ -105,9 +116,6 @@ module _ (t : View) (loaded : Loaded t) (w : ℕ) (backlogs delays jitters ends 
     gathered-most : (f : ℕ → ℕ) (most : ℕ) → ((x : ℕ) → x < w → f x ≤ most) → (k : ℕ) → k < t .channels → gathered t f w k ≤ hopsMost * most
     gathered-most f most h k l =
         le-trans (reach-most f most w (t .route k) h) (mul-le-mul-right most (loaded .sound .hops-most k l))
-
-    abbrev pub jitterMost : ℕ
-    jitterMost = 134217728
 
     pub jitter-small : (k : ℕ) → k < t .channels → gathered t (late t) w k ≤ jitterMost
     jitter-small k l = omega (arith, gathered-most (late t) (2 ^ 24) (λ x less. omega (arith, delay-small x less)) k l)
@@ -135,7 +143,7 @@ module _ (t : View) (loaded : Loaded t) (w : ℕ) (backlogs delays jitters ends 
       let most : load t w ≤ 100 * hyperMost = le-trans (loaded .loads w l) (mul-le-mul (sound .rate-most w l) (sound .hyper-most)) in
       omega (
         arith,
-        shares-most t sound (known t w) w 134217728 (λ k less there. omega (arith, known-gathered (omega arith) k less there, jitter-small (omega arith) k less)),
+        shares-most t sound (known t w) w jitterMost (λ k less there. omega (arith, known-gathered (omega arith) k less there, jitter-small (omega arith) k less)),
         sound .channels-most,
         most,
       )
@@ -148,3 +156,13 @@ walking-ends t sound w all ends e =
     column-told channelsMost (endToEnd t) (t .channels) ends (ap length e ∙ length-column channelsMost _ (t .channels))
     (λ k l p. entry-at channelsMost (t .channels) _ ends e (sound .channels-most) k l ∙ ap (λ (x : ℕ). gathered t (spent t) x k) all ∙ reach-end (spent t) (t .wires) 0 (t .route k) (sound .climbs k l))
     (λ k l p. ap (λ (a : List ℕ). getD a k 0) e ∙ column-past channelsMost _ (t .channels) k l p)
+
+-- test 13 of wire w
+module _ (t : View) (w : ℕ) where
+  pub room-through : backlog t w ≤ t .room w → Through (roomTest t w)
+  unfolding roomTest
+  room-through l = gate-through (le-gate 13 w (backlog t w) (t .room w)) l
+
+  pub room-stops : t .room w < backlog t w → Stops (roomTest t w) 13 w
+  unfolding roomTest
+  room-stops l = le-stops 13 w (backlog t w) (t .room w) l

@@ -137,7 +137,7 @@ fn shares(
     sum
 }
 
-// The jitter and the delay sum of each of wire w's channels, of which there are `count`, are raised.
+// The jitter and the delay so far of each of wire w's channels, of which there are `count`, are raised.
 fn raise(
     table: &[u8],
     w: usize,
@@ -146,21 +146,21 @@ fn raise(
     late: u64,
     spent: u64,
     jitter: &mut [u64; Table::CHANNELS_MOST],
-    sum: &mut [u64; Table::CHANNELS_MOST],
+    end: &mut [u64; Table::CHANNELS_MOST],
 )
     requires { ⌜ (w < wiresMost) × (viewOf (now table) .channels ≤ channelsMost) ⌝ }
     requires { ⌜ Stretch (on (viewOf (now table)) w) (viewOf (now table) .channels) (now list) (channelsMost * w) count ⌝ }
-    requires { ⌜ (length (now jitter) ≡ channelsMost) × (length (now sum) ≡ channelsMost) ⌝ }
+    requires { ⌜ (length (now jitter) ≡ channelsMost) × (length (now end) ≡ channelsMost) ⌝ }
     requires { ⌜ ((k : ℕ) → k < viewOf (now table) .channels → getD (now jitter) k 0 + late < 2 ^ 64) ⌝ }
-    requires { ⌜ ((k : ℕ) → k < viewOf (now table) .channels → getD (now sum) k 0 + spent < 2 ^ 64) ⌝ }
+    requires { ⌜ ((k : ℕ) → k < viewOf (now table) .channels → getD (now end) k 0 + spent < 2 ^ 64) ⌝ }
     ensures { λ _. ⌜ Raised (on (viewOf (now (table .entry))) w) (viewOf (now (table .entry)) .channels) late (now (jitter .entry)) (now (jitter .exit)) ⌝ }
-    ensures { λ _. ⌜ Raised (on (viewOf (now (table .entry))) w) (viewOf (now (table .entry)) .channels) spent (now (sum .entry)) (now (sum .exit)) ⌝ }
+    ensures { λ _. ⌜ Raised (on (viewOf (now (table .entry))) w) (viewOf (now (table .entry)) .channels) spent (now (end .entry)) (now (end .exit)) ⌝ }
 {
     let first = Table::CHANNELS_MOST * w;
     for j in 0..count {
         let k = wide(list[first + j]);
         jitter[k] += late;
-        sum[k] += spent;
+        end[k] += spent;
     }
 }
 
@@ -176,4 +176,93 @@ fn less_one(d: u64) -> u64
     ensures { λ r. ⌜ r ≡ d - 1 ⌝ }
 {
     if d == 0 { 0 } else { d - 1 }
+}
+
+// Wires in ascending order, so that the jitter of each of a wire's channels is known when it is worked out; up to the first
+// that fails 13, so that every delay before it fits 24 bits.
+fn walk(table: &[u8], t: Table, list: &[u8; FILED_MOST], count: &[usize; Table::WIRES_MOST]) -> Worked
+    requires { ⌜ Sound (viewOf (now table)) ⌝ }
+    requires { ⌜ t ≡ tableOf (viewOf (now table)) ⌝ }
+    requires { ⌜ ((w : ℕ) → w < wiresMost → Stretch (on (viewOf (now table)) w) (viewOf (now table) .channels) (now list) (channelsMost * w) (getD (now count) w 0)) ⌝ }
+    requires { ⌜ ((w : ℕ) → w < viewOf (now table) .wires → loadOf (viewOf (now table)) w ≤ viewOf (now table) .rate w * viewOf (now table) .hyper) ⌝ }
+    ensures { λ r. ⌜ ((rest : Reply) → each (roomTest (viewOf (now (table .entry)))) 0 (viewOf (now (table .entry)) .wires) rest ≡ after (r .answer) rest) ⌝ }
+    ensures { λ r. ⌜ IfRead (r .answer) (WorkedOut (viewOf (now (table .entry))) r) ⌝ }
+{
+    let n = t.wires;
+    let hyper = t.hyper;
+    let rate = t.rate;
+    let prop = t.prop;
+    let room = t.room;
+    let price = t.price;
+    let times = t.times;
+    let mut answer = Reading::Read;
+    let mut backlog = [0u64; Table::WIRES_MOST];
+    let mut delay = [0u64; Table::WIRES_MOST];
+    let mut jitter = [0u64; Table::CHANNELS_MOST];
+    let mut end = [0u64; Table::CHANNELS_MOST];
+    for w in 0..n {
+        let bytes = shares(table, w, count[w], list, hyper, &price, &times, &jitter) / hyper;
+        if room[w] < bytes {
+            answer = Reading::Refused(13, w as u64);
+            break;
+        }
+        let late = slots(bytes, rate[w]);
+        backlog[w] = bytes;
+        delay[w] = late;
+        raise(table, w, count[w], list, less_one(late), late + prop[w], &mut jitter, &mut end);
+    }
+    Worked {
+        answer,
+        backlog,
+        delay,
+        end,
+    }
+}
+
+fn unworked(answer: Reading) -> Worked
+    ensures { λ r. ⌜ r .answer ≡ answer ⌝ }
+{
+    Worked {
+        answer,
+        backlog: [0; Table::WIRES_MOST],
+        delay: [0; Table::WIRES_MOST],
+        end: [0; Table::CHANNELS_MOST],
+    }
+}
+
+// 12 over all wires, 13 over all wires, 14 over all channels, each lowest number first.
+pub(crate) fn bounds(table: &[u8], t: Table) -> Worked
+    requires { ⌜ reading (now table) ≡ granted [] ⌝ }
+    requires { ⌜ t ≡ tableOf (viewOf (now table)) ⌝ }
+    ensures { λ r. ⌜ ((rest : Reply) → boundsTests (viewOf (now (table .entry))) rest ≡ after (r .answer) rest) ⌝ }
+    ensures { λ r. ⌜ IfRead (r .answer) (WorkedOut (viewOf (now (table .entry))) r) ⌝ }
+{
+    let hyper = t.hyper;
+    let n = t.wires;
+    let m = t.channels;
+    let rate = t.rate;
+    let deadline = t.deadline;
+    let mut list = [0u8; FILED_MOST];
+    let mut count = [0usize; Table::WIRES_MOST];
+    let mut load = [0u64; Table::WIRES_MOST];
+    file(table, t, &mut list, &mut count, &mut load);
+    let loads = none_over(&load, &rate, hyper, n, 12);
+    if let Reading::Refused(_, _) = loads {
+        return unworked(loads);
+    }
+    let worked = walk(table, t, &list, &count);
+    let rooms = worked.answer;
+    if let Reading::Refused(_, _) = rooms {
+        return worked;
+    }
+    let backlog = worked.backlog;
+    let delay = worked.delay;
+    let end = worked.end;
+    let answer = none_over(&end, &deadline, 1, m, 14);
+    Worked {
+        answer,
+        backlog,
+        delay,
+        end,
+    }
 }

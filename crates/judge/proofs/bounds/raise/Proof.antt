@@ -14,16 +14,16 @@ use Rattle.judge.proofs.Filing.{among, raised-start, raised-here, raise
 use Rattle.judge.proofs.bounds.raise.Statement.{statement}
 use Rattle.judge.proofs.bounds.raise.Tie as tie
 
-record Here (inside : ℕ → Bool) (m count late spent : ℕ) (jitter₀ sum₀ jitter sum : List ℕ) (j : ℕ) : Type 0 where
+record Here (inside : ℕ → Bool) (m count late spent : ℕ) (jitter₀ end₀ jitter end : List ℕ) (j : ℕ) : Type 0 where
   pub most : j ≤ count
   pub jitters : Raised (among inside j) m late jitter₀ jitter
-  pub sums : Raised (among inside j) m spent sum₀ sum
+  pub ends : Raised (among inside j) m spent end₀ end
 
 abbrev Inv-loop : tie.InvT-loop
-Inv-loop table w count list late spent jitter₀ sum₀ first j₀ jitter sum j = Here (on (viewOf table) w) (viewOf table .channels) count late spent jitter₀ sum₀ jitter sum j
+Inv-loop table w count list late spent jitter₀ end₀ first j₀ jitter end j = Here (on (viewOf table) w) (viewOf table .channels) count late spent jitter₀ end₀ jitter end j
 
 abbrev μ-loop : tie.MeasureT-loop
-μ-loop table w count list late spent jitter₀ sum₀ first j₀ jitter sum j = count - j
+μ-loop table w count list late spent jitter₀ end₀ first j₀ jitter end j = count - j
 
 mul-first : tie.Need-mul-first Inv-loop μ-loop
 mul-first c = search needs
@@ -35,7 +35,7 @@ loop-holds c =
     record {
       most = omega arith;
       jitters = raised-start (on t (st .args .w)) (t .channels) (st .args .late) (st .args .jitter .now);
-      sums = raised-start (on t (st .args .w)) (t .channels) (st .args .spent) (st .args .sum .now);
+      ends = raised-start (on t (st .args .w)) (t .channels) (st .args .spent) (st .args .end .now);
     }
 
 module _ (c : tie.At-loop Inv-loop μ-loop) where
@@ -88,20 +88,20 @@ add-jitter c =
 element-write-jitter : tie.Need-element-write-jitter Inv-loop μ-loop
 element-write-jitter c = most (c .before)
 
-mul-sum : tie.Need-mul-sum Inv-loop μ-loop
-mul-sum c = omega (arith, most (c .before))
+mul-end : tie.Need-mul-end Inv-loop μ-loop
+mul-end c = omega (arith, most (c .before))
 
-element-copy-out-sum : tie.Need-element-copy-out-sum Inv-loop μ-loop
-element-copy-out-sum c = most (c .before)
+element-copy-out-end : tie.Need-element-copy-out-end Inv-loop μ-loop
+element-copy-out-end c = most (c .before)
 
-add-sum : tie.Need-add-sum Inv-loop μ-loop
-add-sum c =
+add-end : tie.Need-add-end Inv-loop μ-loop
+add-end c =
     let r = c .before .before in
     let top = top r in
-    omega (arith, raised-here (inside top) (t top .channels) _ _ (top .loop .j) (k r) (entry r) _ (top .loop .inv .sums), st top .pre .1 .1 .1 .1 (k r) (entry r .less))
+    omega (arith, raised-here (inside top) (t top .channels) _ _ (top .loop .j) (k r) (entry r) _ (top .loop .inv .ends), st top .pre .1 .1 .1 .1 (k r) (entry r .less))
 
-element-write-sum : tie.Need-element-write-sum Inv-loop μ-loop
-element-write-sum c = most (c .before .before)
+element-write-end : tie.Need-element-write-end Inv-loop μ-loop
+element-write-end c = most (c .before .before)
 
 add-j : tie.Need-add-j Inv-loop μ-loop
 add-j c = search needs
@@ -117,7 +117,7 @@ loop-again c =
     record {
       most = omega arith;
       jitters = raised-next (inside top) (t top .channels) _ _ (top .loop .j) (k r) (entry r) _ (top .loop .inv .jitters) (omega (arith, lengths .0, st top .pre .0 .1));
-      sums = raised-next (inside top) (t top .channels) _ _ (top .loop .j) (k r) (entry r) _ (top .loop .inv .sums) (omega (arith, lengths .1, st top .pre .0 .1));
+      ends = raised-next (inside top) (t top .channels) _ _ (top .loop .j) (k r) (entry r) _ (top .loop .inv .ends) (omega (arith, lengths .1, st top .pre .0 .1));
     }
 
 returns : tie.Need-returns Inv-loop μ-loop
@@ -125,7 +125,7 @@ returns c =
     let top = c .before in
     let all : top .loop .j ≡ count (inside top) (t top .channels) = omega (arith, stretch top .all, top .loop .inv .most, c .loop-test .left) in
     (raised-end (inside top) (t top .channels) _ _ (top .loop .j) all _ (top .loop .inv .jitters),
-    raised-end (inside top) (t top .channels) _ _ (top .loop .j) all _ (top .loop .inv .sums))
+    raised-end (inside top) (t top .channels) _ _ (top .loop .j) all _ (top .loop .inv .ends))
 
 pub raise-spec : {M : Type 1} → statement M
 raise-spec =
@@ -142,10 +142,10 @@ raise-spec =
     element-copy-out-jitter
     add-jitter
     element-write-jitter
-    mul-sum
-    element-copy-out-sum
-    add-sum
-    element-write-sum
+    mul-end
+    element-copy-out-end
+    add-end
+    element-write-end
     add-j
     loop-less
     loop-again
