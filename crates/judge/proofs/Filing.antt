@@ -115,7 +115,7 @@ module _ (inside : ℕ → ℕ → Bool) (part : ℕ → ℕ) (c : ℕ) where
           let at = channelsMost * x + getD counts x 0 in
           let n : getD counts x 0 ≡ count (inside x) c = next-place x x-most out in
           let other : (w k : ℕ) → k ≤ c → (w ≡ x → ⊥) → channelsMost * w + count (inside w) k ≡ at → ⊥
-                    = λ w k l o e. apart x w (count (inside x) c) (count (inside w) k) (omega (arith, count-most (inside x) c)) (omega (arith, count-most (inside w) k)) o (omega (arith, e)) in
+          = λ w k l o e. apart x w (count (inside x) c) (count (inside w) k) (omega (arith, count-most (inside x) c)) (omega (arith, count-most (inside w) k)) o (omega (arith, e)) in
           record {
             list-length = length-set list at c ∙ filing .list-length;
             counts-length = length-set counts x _ ∙ filing .counts-length;

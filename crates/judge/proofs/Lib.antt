@@ -2,3 +2,4 @@ pub mod Filing
 pub mod Walk
 pub mod Told
 pub mod Walking
+pub mod Limits

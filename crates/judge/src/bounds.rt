@@ -83,7 +83,16 @@ fn file(
     let hops = t.hops;
     let route = t.route;
     for c in 0..m {
-        file_channel(table, c, wide(hops[c]), price[c] * times[c], &route, list, count, load);
+        file_channel(
+            table,
+            c,
+            wide(hops[c]),
+            price[c] * times[c],
+            &route,
+            list,
+            count,
+            load,
+        );
     }
 }
 
@@ -180,7 +189,12 @@ fn less_one(d: u64) -> u64
 
 // Wires in ascending order, so that the jitter of each of a wire's channels is known when it is worked out; up to the first
 // that fails 13, so that every delay before it fits 24 bits.
-fn walk(table: &[u8], t: Table, list: &[u8; FILED_MOST], count: &[usize; Table::WIRES_MOST]) -> Worked
+fn walk(
+    table: &[u8],
+    t: Table,
+    list: &[u8; FILED_MOST],
+    count: &[usize; Table::WIRES_MOST],
+) -> Worked
     requires { ⌜ Sound (viewOf (now table)) ⌝ }
     requires { ⌜ t ≡ tableOf (viewOf (now table)) ⌝ }
     requires { ⌜ ((w : ℕ) → w < wiresMost → Stretch (on (viewOf (now table)) w) (viewOf (now table) .channels) (now list) (channelsMost * w) (getD (now count) w 0)) ⌝ }
@@ -209,7 +223,16 @@ fn walk(table: &[u8], t: Table, list: &[u8; FILED_MOST], count: &[usize; Table::
         let late = slots(bytes, rate[w]);
         backlog[w] = bytes;
         delay[w] = late;
-        raise(table, w, count[w], list, less_one(late), late + prop[w], &mut jitter, &mut end);
+        raise(
+            table,
+            w,
+            count[w],
+            list,
+            less_one(late),
+            late + prop[w],
+            &mut jitter,
+            &mut end,
+        );
     }
     Worked {
         answer,

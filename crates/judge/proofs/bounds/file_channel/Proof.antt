@@ -142,10 +142,11 @@ loop-again : tie.Need-loop-again Inv-loop μ-loop
 loop-again c =
     let r = c .before .before in
     let now = top r in
-    let filed = hop-filed (t now) (k now) (list r) (counts r) (loads r) (sound now) (less now) (i now) (short now) (now .before .loop .inv .1) (w r) (wire r) in
-    (omega arith,
-    subst (λ (p : ℕ). FiledHops (t now) (k now) (i now + 1) (set (list r) (channelsMost * w r + getD (counts r) (w r) 0) (k now)) (set (counts r) (w r) (getD (counts r) (w r) 0 + 1)) (set (loads r) (w r) (getD (loads r) (w r) 0 + p)))
-    (sym (st now .pre .1 .1 .0 .1)) filed)
+    let filed = hop-filed (t now) (k now) (list r) (counts r) (loads r) (sound now) (less now) (i now) (short now) (now .before .loop .inv .1) (w r) (wire r) in (
+      omega arith,
+      subst (λ (p : ℕ). FiledHops (t now) (k now) (i now + 1) (set (list r) (channelsMost * w r + getD (counts r) (w r) 0) (k now)) (set (counts r) (w r) (getD (counts r) (w r) 0 + 1)) (set (loads r) (w r) (getD (loads r) (w r) 0 + p)))
+          (sym (st now .pre .1 .1 .0 .1)) filed,
+    )
 
 returns : tie.Need-returns Inv-loop μ-loop
 returns c =

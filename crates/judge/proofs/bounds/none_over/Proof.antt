@@ -65,9 +65,10 @@ loop-less c = search needs
 
 loop-again : tie.Need-loop-again Inv-loop μ-loop
 loop-again c =
-    let top = c .before .before .before .before in
-    (omega arith,
-    from-next (tests top) (n top) (top .loop .i) (omega arith) (top .loop .inv .1) (gate-through (le-gate (number top) (top .loop .i) (figure top) (limit top)) (omega arith)))
+    let top = c .before .before .before .before in (
+      omega arith,
+      from-next (tests top) (n top) (top .loop .i) (omega arith) (top .loop .inv .1) (gate-through (le-gate (number top) (top .loop .i) (figure top) (limit top)) (omega arith)),
+    )
 
 returns-2 : tie.Need-returns-2 Inv-loop μ-loop
 returns-2 c =

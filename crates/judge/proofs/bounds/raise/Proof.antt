@@ -123,9 +123,10 @@ loop-again c =
 returns : tie.Need-returns Inv-loop μ-loop
 returns c =
     let top = c .before in
-    let all : top .loop .j ≡ count (inside top) (t top .channels) = omega (arith, stretch top .all, top .loop .inv .most, c .loop-test .left) in
-    (raised-end (inside top) (t top .channels) _ _ (top .loop .j) all _ (top .loop .inv .jitters),
-    raised-end (inside top) (t top .channels) _ _ (top .loop .j) all _ (top .loop .inv .ends))
+    let all : top .loop .j ≡ count (inside top) (t top .channels) = omega (arith, stretch top .all, top .loop .inv .most, c .loop-test .left) in (
+      raised-end (inside top) (t top .channels) _ _ (top .loop .j) all _ (top .loop .inv .jitters),
+      raised-end (inside top) (t top .channels) _ _ (top .loop .j) all _ (top .loop .inv .ends),
+    )
 
 pub raise-spec : {M : Type 1} → statement M
 raise-spec =

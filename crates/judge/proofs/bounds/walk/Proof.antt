@@ -142,9 +142,10 @@ array-read-slots c = most (turn2 c)
 
 slots-requires : tie.Need-slots-requires Inv-loop μ-loop
 slots-requires c κs =
-    let top = top2 c in
-    (omega (arith, told-rate c, sound top .rate-least (w top) (less (turn2 c))),
-    omega (arith, told-rate c, sound top .rate-most (w top) (less (turn2 c)), small c))
+    let top = top2 c in (
+      omega (arith, told-rate c, sound top .rate-least (w top) (less (turn2 c))),
+      omega (arith, told-rate c, sound top .rate-most (w top) (less (turn2 c)), small c),
+    )
 
 module _ (c : tie.After-slots Inv-loop μ-loop) where
   abbrev top3 : tie.At-loop Inv-loop μ-loop
@@ -206,11 +207,19 @@ raise-requires c κs =
     let top = top3 r in
     let turn = turn2 (r .before) in
     let inside : w top ≤ t top .wires = omega (arith, less turn) in
-    let so = walking top in
-    ((most turn, sound top .channels-most), (st top .pre .1 .1 .0 (w top) (most turn),
-    ((ap length (so .jitters-told) ∙ length-column channelsMost _ (t top .channels), ap length (so .ends-told) ∙ length-column channelsMost _ (t top .channels)),
-    (λ k less. omega (arith, told-late l, late-lt r, jitter-at (t top) (full top) (w top) _ _ _ _ so inside k less, jitter-small (t top) (full top) (w top) _ _ _ _ so inside k less),
-    λ k less. omega (arith, told-spent r, spent-lt r, end-at (t top) (full top) (w top) _ _ _ _ so inside k less, end-small (t top) (full top) (w top) _ _ _ _ so inside k less)))))
+    let so = walking top in (
+      (most turn, sound top .channels-most),
+      (
+        st top .pre .1 .1 .0 (w top) (most turn),
+        (
+          (ap length (so .jitters-told) ∙ length-column channelsMost _ (t top .channels), ap length (so .ends-told) ∙ length-column channelsMost _ (t top .channels)),
+          (
+            λ k less. omega (arith, told-late l, late-lt r, jitter-at (t top) (full top) (w top) _ _ _ _ so inside k less, jitter-small (t top) (full top) (w top) _ _ _ _ so inside k less),
+            λ k less. omega (arith, told-spent r, spent-lt r, end-at (t top) (full top) (w top) _ _ _ _ so inside k less, end-small (t top) (full top) (w top) _ _ _ _ so inside k less),
+          ),
+        ),
+      ),
+    )
 
 add-w : tie.Need-add-w Inv-loop μ-loop
 add-w c = search needs
