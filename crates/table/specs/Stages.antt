@@ -32,6 +32,7 @@ pub record HeadRead (s : List ℕ) (r : Head) : Type 0 where
   pub wires : r .wires ≡ wiresOf s
   pub channels : r .channels ≡ channelsOf s
   pub wires-most : r .wires ≤ wiresMost
+  pub channels-least : 1 ≤ r .channels
   pub channels-most : r .channels ≤ channelsMost
 
 -- of the first n wires

@@ -208,3 +208,58 @@ fn fixed_of(s: &[u8], hyper: u64, c: usize, at: usize) -> Fixed
         hops,
     }
 }
+
+// The search over channels and hops ends at the first fault; 9 and 10 are tested hop by hop.
+fn channels_of(s: &[u8], hyper: u64, n: usize, m: usize) -> Channels
+    requires { ⌜ hyper ≡ hyperOf (now s) ⌝ }
+    requires { ⌜ n ≡ wiresOf (now s) ⌝ }
+    requires { ⌜ (n ≤ wiresMost) × (1 ≤ m) × (m ≤ channelsMost) ⌝ }
+    ensures { λ r. ⌜ ((rest : Reply) → each (channelTests (now (s .entry))) 0 m rest ≡ after (r .answer) rest) ⌝ }
+    ensures { λ r. ⌜ IfRead (r .answer) (ChannelsRead (now (s .entry)) m r) ⌝ }
+{
+    let mut found = Reading::Read;
+    let mut end = Table::HEAD_BITS + Table::WIRE_BITS * n;
+    let mut price = [0u64; Table::CHANNELS_MOST];
+    let mut times = [0u64; Table::CHANNELS_MOST];
+    let mut deadline = [0u64; Table::CHANNELS_MOST];
+    let mut hops = [0u8; Table::CHANNELS_MOST];
+    let mut route = [0u8; Table::ROUTES_MOST];
+    'search: for c in 0..m {
+        let fixed = fixed_of(s, hyper, c, end);
+        let answer = fixed.answer;
+        if let Reading::Refused(number, place) = answer {
+            found = Reading::Refused(number, place);
+            break 'search;
+        }
+        let at = end + Table::FIXED_BITS;
+        let count = fixed.hops;
+        let mut least: u64 = 0;
+        for i in 0..count {
+            let wire = field_at(s, at + Table::HOP_BITS * i, Table::HOP_BITS);
+            if n as u64 <= wire {
+                found = Reading::Refused(9, c as u64);
+                break 'search;
+            }
+            if wire < least {
+                found = Reading::Refused(10, c as u64);
+                break 'search;
+            }
+            route[Table::HOPS_MOST * c + i] = wire as u8;
+            least = wire + 1;
+        }
+        price[c] = fixed.price;
+        times[c] = fixed.times;
+        deadline[c] = fixed.deadline;
+        hops[c] = count as u8;
+        end = at + Table::HOP_BITS * count;
+    }
+    Channels {
+        answer: found,
+        end,
+        price,
+        times,
+        deadline,
+        hops,
+        route,
+    }
+}

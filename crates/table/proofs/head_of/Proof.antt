@@ -122,6 +122,7 @@ returns-8 c =
       wires = wires f;
       channels = channels f;
       wires-most = omega arith;
+      channels-least = omega arith;
       channels-most = omega arith;
     })
 
