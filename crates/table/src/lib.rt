@@ -9,7 +9,7 @@ ghost use Rattle.rules.specs.Price.{price as priceOf};
 ghost use Rattle.rules.specs.Table.{viewOf, hyperOf, wiresOf, endOf};
 ghost use Rattle.rules.specs.Reading.{headTests, wireTests, channelTests, recordTests, fillingTests, reading};
 ghost use Rattle.rules.specs.Decoded.{tableLeft, noTable};
-ghost use Rattle.table.specs.Stages.{after, IfRead, HeadRead, WiresRead, FixedRead, ChannelsRead, hopsLeft};
+ghost use Rattle.table.specs.Stages.{after, IfRead, HeadRead, WiresRead, FixedRead, ChannelsRead, hopsLeft, wholeOf};
 use bits::Taken;
 use rules::Pricing;
 use rules::Reading;
@@ -92,7 +92,11 @@ fn head_of(s: &[u8]) -> Head
     }
     let hyper = field_at(s, 0, Table::HYPER_BITS);
     let wires = field_at(s, Table::HYPER_BITS, Table::WIRES_BITS) as usize;
-    let channels = field_at(s, Table::HYPER_BITS + Table::WIRES_BITS, Table::CHANNELS_BITS) as usize;
+    let channels = field_at(
+        s,
+        Table::HYPER_BITS + Table::WIRES_BITS,
+        Table::CHANNELS_BITS,
+    ) as usize;
     if hyper < 1 {
         return no_head(2);
     }
@@ -143,7 +147,11 @@ fn wires_of(s: &[u8], n: usize) -> Wires
         }
         rate[w] = bytes;
         prop[w] = field_at(s, at + Table::RATE_BITS, Table::PROP_BITS);
-        room[w] = field_at(s, at + Table::RATE_BITS + Table::PROP_BITS, Table::ROOM_BITS);
+        room[w] = field_at(
+            s,
+            at + Table::RATE_BITS + Table::PROP_BITS,
+            Table::ROOM_BITS,
+        );
     }
     Wires {
         answer: found,
@@ -262,4 +270,96 @@ fn channels_of(s: &[u8], hyper: u64, n: usize, m: usize) -> Channels
         hops,
         route,
     }
+}
+
+// 11: a further byte, or a filling bit not 0.
+fn filling_of(s: &[u8], end: usize) -> Reading
+    requires { ⌜ end ≡ endOf (now s) ⌝ }
+    requires { ⌜ (end ≤ 8 * tableLongest) × (end ≤ 8 * length (now s)) ⌝ }
+    ensures { λ r. ⌜ ((rest : Reply) → fillingTests (now (s .entry)) rest ≡ after r rest) ⌝ }
+{
+    if (end + 7) / 8 < s.len() {
+        return Reading::Refused(11, 0);
+    }
+    if field_at(s, end, 8 * s.len() - end) != 0 {
+        return Reading::Refused(11, 0);
+    }
+    Reading::Read
+}
+
+fn refused(number: u64, place: u64) -> TableRead
+    ensures { λ r. ⌜ (r .answer ≡ Reading.Refused number place) × (r .table ≡ noTable) ⌝ }
+{
+    TableRead {
+        answer: Reading::Refused(number, place),
+        table: Table {
+            hyper: 0,
+            wires: 0,
+            channels: 0,
+            rate: [0; Table::WIRES_MOST],
+            prop: [0; Table::WIRES_MOST],
+            room: [0; Table::WIRES_MOST],
+            price: [0; Table::CHANNELS_MOST],
+            times: [0; Table::CHANNELS_MOST],
+            deadline: [0; Table::CHANNELS_MOST],
+            hops: [0; Table::CHANNELS_MOST],
+            route: [0; Table::ROUTES_MOST],
+        },
+    }
+}
+
+// What was read, put together.
+fn whole(head: Head, wires: Wires, channels: Channels) -> TableRead
+    ensures { λ r. ⌜ r ≡ wholeOf head wires channels ⌝ }
+{
+    let rate = wires.rate;
+    let prop = wires.prop;
+    let room = wires.room;
+    let price = channels.price;
+    let times = channels.times;
+    let deadline = channels.deadline;
+    let hops = channels.hops;
+    let route = channels.route;
+    TableRead {
+        answer: Reading::Read,
+        table: Table {
+            hyper: head.hyper,
+            wires: head.wires,
+            channels: head.channels,
+            rate,
+            prop,
+            room,
+            price,
+            times,
+            deadline,
+            hops,
+            route,
+        },
+    }
+}
+
+// Header, wires, channels, filling; on a refusal the table is all 0.
+pub fn read(s: &[u8]) -> TableRead
+    ensures { λ r. ⌜ readingReply (r .answer) ≡ reading (now (s .entry)) ⌝ }
+    ensures { λ r. ⌜ r .table ≡ tableLeft (reading (now (s .entry))) (viewOf (now (s .entry))) ⌝ }
+{
+    let head = head_of(s);
+    let answer = head.answer;
+    if let Reading::Refused(number, place) = answer {
+        return refused(number, place);
+    }
+    let wires = wires_of(s, head.wires);
+    let answer = wires.answer;
+    if let Reading::Refused(number, place) = answer {
+        return refused(number, place);
+    }
+    let channels = channels_of(s, head.hyper, head.wires, head.channels);
+    let answer = channels.answer;
+    if let Reading::Refused(number, place) = answer {
+        return refused(number, place);
+    }
+    if let Reading::Refused(number, place) = filling_of(s, channels.end) {
+        return refused(number, place);
+    }
+    whole(head, wires, channels)
 }
