@@ -71,24 +71,18 @@ fn price_of(framing: u64, payload: u64) -> u64
     }
 }
 
-fn no_head(number: u64) -> Head
-    ensures { λ r. ⌜ r .answer ≡ Reading.Refused number 0 ⌝ }
-{
-    Head {
-        answer: Reading::Refused(number, 0),
-        hyper: 0,
-        wires: 0,
-        channels: 0,
-    }
-}
-
 // The three header fields are read whole before 2, 3, 4.
 fn head_of(s: &[u8]) -> Head
     ensures { λ r. ⌜ ((rest : Reply) → headTests (now (s .entry)) rest ≡ after (r .answer) rest) ⌝ }
     ensures { λ r. ⌜ IfRead (r .answer) (HeadRead (now (s .entry)) r) ⌝ }
 {
     if !bits::holds(s, 0, Table::HEAD_BITS) {
-        return no_head(1);
+        return Head {
+            answer: Reading::Refused(1, 0),
+            hyper: 0,
+            wires: 0,
+            channels: 0,
+        };
     }
     let hyper = field_at(s, 0, Table::HYPER_BITS);
     let wires = field_at(s, Table::HYPER_BITS, Table::WIRES_BITS) as usize;
@@ -97,26 +91,23 @@ fn head_of(s: &[u8]) -> Head
         Table::HYPER_BITS + Table::WIRES_BITS,
         Table::CHANNELS_BITS,
     ) as usize;
-    if hyper < 1 {
-        return no_head(2);
-    }
-    if (Table::HYPER_MOST as u64) < hyper {
-        return no_head(2);
-    }
-    if wires < 1 {
-        return no_head(3);
-    }
-    if Table::WIRES_MOST < wires {
-        return no_head(3);
-    }
-    if channels < 1 {
-        return no_head(4);
-    }
-    if Table::CHANNELS_MOST < channels {
-        return no_head(4);
-    }
+    let answer = if hyper < 1 {
+        Reading::Refused(2, 0)
+    } else if (Table::HYPER_MOST as u64) < hyper {
+        Reading::Refused(2, 0)
+    } else if wires < 1 {
+        Reading::Refused(3, 0)
+    } else if Table::WIRES_MOST < wires {
+        Reading::Refused(3, 0)
+    } else if channels < 1 {
+        Reading::Refused(4, 0)
+    } else if Table::CHANNELS_MOST < channels {
+        Reading::Refused(4, 0)
+    } else {
+        Reading::Read
+    };
     Head {
-        answer: Reading::Read,
+        answer,
         hyper,
         wires,
         channels,
