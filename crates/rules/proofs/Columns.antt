@@ -1,15 +1,17 @@
 -- Laws of a column: an array that is filled from the front, one store an entry.
 use mathlib.Core.Path.{_≡_, refl, sym, ap, _∙_}
 use mathlib.Core.List.{List, [], _∷_, _++_}
-use Prim.Native.Nat.{ℕ, zero, suc, _+_, _≤_, _<_}
+use Prim.Native.Nat.{ℕ, zero, suc, _+_, _-_, _*_, _/_, _%_, _≤_, _<_}
 use native.Mathlib.Omega.{arith}
 use native.Mathlib.Decide.{decLt, ℕ-discrete}
-use lib.ListN.{length, getD, set, replicate, length-append, length-set, length-replicate, getD-replicate, List·getD-append}
+use lib.ListN.{length, getD, set, replicate, length-append, length-set, length-replicate, getD-replicate, List·getD-append, List·getD-eq-default}
 use lib.Seq.{ext-getD, getD-at, getD-set-same, getD-set-other}
 use lib.Dec.{ltb}
 use borrow.Author.Tests.{lt-ltb, le-ltb}
 use Rattle.rules.specs.Words.{only, listed}
-use Rattle.rules.specs.Decoded.{column}
+use Rattle.rules.specs.Numbers.{channelsMost, hopsMost, routesMost}
+use Rattle.rules.specs.Table.{View}
+use Rattle.rules.specs.Decoded.{column, hopOf}
 
 pub length-listed : {A : Type 0} (f : ℕ → A) (n : ℕ) → length (listed f n) ≡ n
 unfolding listed
@@ -74,3 +76,28 @@ module _ (places : ℕ) (f : ℕ → ℕ) where
         | no o ↦ column-past n i (omega arith) h ∙ sym (z i (omega arith) m)
       ])
       (λ i m h. column-past n i (omega arith) h)
+
+-- the routes, eight places a channel: hop i of channel c stands at 8 * c + i
+module _ (t : View) (c : ℕ) where
+  hop-at : (i : ℕ) → i < hopsMost → hopOf t (hopsMost * c + i) ≡ getD (t .route c) i 0
+  hop-at i l =
+      let q : (hopsMost * c + i) / hopsMost ≡ c = omega arith in
+      let r : (hopsMost * c + i) % hopsMost ≡ i = omega arith in
+      rw (q, r)
+
+  pub routes-set : (i x : ℕ) → c < channelsMost → i < hopsMost → x ≡ getD (t .route c) i 0
+      → set (column routesMost (hopsMost * c + i) (hopOf t)) (hopsMost * c + i) x ≡ column routesMost (hopsMost * c + (i + 1)) (hopOf t)
+  routes-set i x l m e =
+      let q : hopsMost * c + i + 1 ≡ hopsMost * c + (i + 1) = omega arith in
+      column-set routesMost (hopOf t) (hopsMost * c + i) x (omega arith) (e ∙ sym (hop-at i m))
+      ∙ ap (λ (k : ℕ). column routesMost k (hopOf t)) q
+
+  -- past a channel's hops every place is 0
+  pub routes-next : (i : ℕ) → i ≤ hopsMost → length (t .route c) ≤ i
+      → column routesMost (hopsMost * c + i) (hopOf t) ≡ column routesMost (hopsMost * (c + 1)) (hopOf t)
+  routes-next i m l =
+      column-more routesMost (hopOf t) (hopsMost * c + i) (hopsMost * (c + 1)) (omega arith) (λ j a b.
+      let e : j ≡ hopsMost * c + (j - hopsMost * c) = omega arith in
+      ap (hopOf t) e
+      ∙ hop-at (j - hopsMost * c) (omega arith)
+      ∙ List·getD-eq-default (t .route c) 0 {n = j - hopsMost * c} (omega arith))

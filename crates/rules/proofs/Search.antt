@@ -18,7 +18,7 @@ use Rattle.rules.specs.Replies.{Reply, refused, test, each}
 use Rattle.rules.specs.Table.{hyperOf, wiresOf, channelsOf, wireAt, codeOf, channelAt, payloadAt, periodAt, hopsAt, routeAt, endOf, fillingOf}
 use Rattle.rules.specs.Reading.{headTests, wireTests, hopTests, divides, recordTests, channelTests, fillingTests}
 use Rattle.rules.proofs.Tests.{Through, Stops, gate-through, le-gate, lt-gate, between-gate}
-use Rattle.rules.proofs.ReadingLaws.{divides-gate}
+use Rattle.rules.proofs.ReadingLaws.{divides-gate, filling-gate}
 
 -- ---- one test
 
@@ -248,6 +248,9 @@ module _ (s : List ℕ) where
   pub filling-not-0 : (fillingOf s (endOf s) ≡ 0 → ⊥) → Stops (fillingTests s) 11 0
   unfolding fillingTests
   filling-not-0 o = second-stops 11 0 (leb (length s) (up (endOf s) 8)) _ (eq-stops 11 0 _ _ o)
+
+  pub filling-passes : length s ≤ up (endOf s) 8 → fillingOf s (endOf s) ≡ 0 → Through (fillingTests s)
+  filling-passes l e = gate-through (filling-gate s) (record { no-more = l; zeros = e })
 
 -- a code has a rate where the rate is not 0
 pub no-rate : (code : ℕ) → getD rates code 0 ≡ 0 → length rates ≤ code

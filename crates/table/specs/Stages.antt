@@ -5,6 +5,7 @@ use Prim.Native.Nat.{ℕ, _+_, _*_, _/_, _≤_}
 use lib.ListN.{length}
 use Rattle.rules.specs.declared.Reading.{Reading}
 use Rattle.rules.specs.declared.Reading.the-variants as answer
+use Rattle.rules.specs.declared.TableRead.{TableRead}
 use Rattle.rules.specs.Numbers.{wiresMost, channelsMost, hopsMost, routesMost, tableLongest, fixedBits, hopBits}
 use Rattle.rules.specs.Replies.{Reply, refused}
 use Rattle.rules.specs.Price.{price}
@@ -32,6 +33,7 @@ pub record HeadRead (s : List ℕ) (r : Head) : Type 0 where
   pub wires : r .wires ≡ wiresOf s
   pub channels : r .channels ≡ channelsOf s
   pub wires-most : r .wires ≤ wiresMost
+  pub channels-least : 1 ≤ r .channels
   pub channels-most : r .channels ≤ channelsMost
 
 -- of the first n wires
@@ -63,3 +65,23 @@ pub record ChannelsRead (s : List ℕ) (m : ℕ) (r : Channels) : Type 0 where
   pub deadline : r .deadline ≡ column channelsMost m (viewOf s .deadline)
   pub hops : r .hops ≡ column channelsMost m (λ k. length (viewOf s .route k))
   pub route : r .route ≡ column routesMost (m * hopsMost) (hopOf (viewOf s))
+
+-- what was read, put together
+abbrev pub wholeOf : Head → Wires → Channels → TableRead
+wholeOf head wires channels =
+    record {
+      answer = answer.Read;
+      table = record {
+        hyper = head .hyper;
+        wires = head .wires;
+        channels = head .channels;
+        rate = wires .rate;
+        prop = wires .prop;
+        room = wires .room;
+        price = channels .price;
+        times = channels .times;
+        deadline = channels .deadline;
+        hops = channels .hops;
+        route = channels .route;
+      };
+    }

@@ -9,7 +9,7 @@ ghost use Rattle.rules.specs.Price.{price as priceOf};
 ghost use Rattle.rules.specs.Table.{viewOf, hyperOf, wiresOf, endOf};
 ghost use Rattle.rules.specs.Reading.{headTests, wireTests, channelTests, recordTests, fillingTests, reading};
 ghost use Rattle.rules.specs.Decoded.{tableLeft, noTable};
-ghost use Rattle.table.specs.Stages.{after, IfRead, HeadRead, WiresRead, FixedRead, ChannelsRead, hopsLeft};
+ghost use Rattle.table.specs.Stages.{after, IfRead, HeadRead, WiresRead, FixedRead, ChannelsRead, hopsLeft, wholeOf};
 use bits::Taken;
 use rules::Pricing;
 use rules::Reading;
@@ -71,24 +71,18 @@ fn price_of(framing: u64, payload: u64) -> u64
     }
 }
 
-fn no_head(number: u64) -> Head
-    ensures { λ r. ⌜ r .answer ≡ Reading.Refused number 0 ⌝ }
-{
-    Head {
-        answer: Reading::Refused(number, 0),
-        hyper: 0,
-        wires: 0,
-        channels: 0,
-    }
-}
-
 // The three header fields are read whole before 2, 3, 4.
 fn head_of(s: &[u8]) -> Head
     ensures { λ r. ⌜ ((rest : Reply) → headTests (now (s .entry)) rest ≡ after (r .answer) rest) ⌝ }
     ensures { λ r. ⌜ IfRead (r .answer) (HeadRead (now (s .entry)) r) ⌝ }
 {
     if !bits::holds(s, 0, Table::HEAD_BITS) {
-        return no_head(1);
+        return Head {
+            answer: Reading::Refused(1, 0),
+            hyper: 0,
+            wires: 0,
+            channels: 0,
+        };
     }
     let hyper = field_at(s, 0, Table::HYPER_BITS);
     let wires = field_at(s, Table::HYPER_BITS, Table::WIRES_BITS) as usize;
@@ -97,26 +91,23 @@ fn head_of(s: &[u8]) -> Head
         Table::HYPER_BITS + Table::WIRES_BITS,
         Table::CHANNELS_BITS,
     ) as usize;
-    if hyper < 1 {
-        return no_head(2);
-    }
-    if (Table::HYPER_MOST as u64) < hyper {
-        return no_head(2);
-    }
-    if wires < 1 {
-        return no_head(3);
-    }
-    if Table::WIRES_MOST < wires {
-        return no_head(3);
-    }
-    if channels < 1 {
-        return no_head(4);
-    }
-    if Table::CHANNELS_MOST < channels {
-        return no_head(4);
-    }
+    let answer = if hyper < 1 {
+        Reading::Refused(2, 0)
+    } else if (Table::HYPER_MOST as u64) < hyper {
+        Reading::Refused(2, 0)
+    } else if wires < 1 {
+        Reading::Refused(3, 0)
+    } else if Table::WIRES_MOST < wires {
+        Reading::Refused(3, 0)
+    } else if channels < 1 {
+        Reading::Refused(4, 0)
+    } else if Table::CHANNELS_MOST < channels {
+        Reading::Refused(4, 0)
+    } else {
+        Reading::Read
+    };
     Head {
-        answer: Reading::Read,
+        answer,
         hyper,
         wires,
         channels,
@@ -215,4 +206,151 @@ fn fixed_of(s: &[u8], hyper: u64, c: usize, at: usize) -> Fixed
         deadline: field_at(s, deadline_at, Table::DEADLINE_BITS),
         hops,
     }
+}
+
+// The search over channels and hops ends at the first fault; 9 and 10 are tested hop by hop.
+fn channels_of(s: &[u8], hyper: u64, n: usize, m: usize) -> Channels
+    requires { ⌜ hyper ≡ hyperOf (now s) ⌝ }
+    requires { ⌜ n ≡ wiresOf (now s) ⌝ }
+    requires { ⌜ (n ≤ wiresMost) × (1 ≤ m) × (m ≤ channelsMost) ⌝ }
+    ensures { λ r. ⌜ ((rest : Reply) → each (channelTests (now (s .entry))) 0 m rest ≡ after (r .answer) rest) ⌝ }
+    ensures { λ r. ⌜ IfRead (r .answer) (ChannelsRead (now (s .entry)) m r) ⌝ }
+{
+    let mut found = Reading::Read;
+    let mut end = Table::HEAD_BITS + Table::WIRE_BITS * n;
+    let mut price = [0u64; Table::CHANNELS_MOST];
+    let mut times = [0u64; Table::CHANNELS_MOST];
+    let mut deadline = [0u64; Table::CHANNELS_MOST];
+    let mut hops = [0u8; Table::CHANNELS_MOST];
+    let mut route = [0u8; Table::ROUTES_MOST];
+    'search: for c in 0..m {
+        let fixed = fixed_of(s, hyper, c, end);
+        let answer = fixed.answer;
+        if let Reading::Refused(number, place) = answer {
+            found = Reading::Refused(number, place);
+            break 'search;
+        }
+        let at = end + Table::FIXED_BITS;
+        let count = fixed.hops;
+        let mut least: u64 = 0;
+        for i in 0..count {
+            let wire = field_at(s, at + Table::HOP_BITS * i, Table::HOP_BITS);
+            if n as u64 <= wire {
+                found = Reading::Refused(9, c as u64);
+                break 'search;
+            }
+            if wire < least {
+                found = Reading::Refused(10, c as u64);
+                break 'search;
+            }
+            route[Table::HOPS_MOST * c + i] = wire as u8;
+            least = wire + 1;
+        }
+        price[c] = fixed.price;
+        times[c] = fixed.times;
+        deadline[c] = fixed.deadline;
+        hops[c] = count as u8;
+        end = at + Table::HOP_BITS * count;
+    }
+    Channels {
+        answer: found,
+        end,
+        price,
+        times,
+        deadline,
+        hops,
+        route,
+    }
+}
+
+// 11: a further byte, or a filling bit not 0.
+fn filling_of(s: &[u8], end: usize) -> Reading
+    requires { ⌜ end ≡ endOf (now s) ⌝ }
+    requires { ⌜ (end ≤ 8 * tableLongest) × (end ≤ 8 * length (now s)) ⌝ }
+    ensures { λ r. ⌜ ((rest : Reply) → fillingTests (now (s .entry)) rest ≡ after r rest) ⌝ }
+{
+    if (end + 7) / 8 < s.len() {
+        return Reading::Refused(11, 0);
+    }
+    if field_at(s, end, 8 * s.len() - end) != 0 {
+        return Reading::Refused(11, 0);
+    }
+    Reading::Read
+}
+
+fn refused(number: u64, place: u64) -> TableRead
+    ensures { λ r. ⌜ (r .answer ≡ Reading.Refused number place) × (r .table ≡ noTable) ⌝ }
+{
+    TableRead {
+        answer: Reading::Refused(number, place),
+        table: Table {
+            hyper: 0,
+            wires: 0,
+            channels: 0,
+            rate: [0; Table::WIRES_MOST],
+            prop: [0; Table::WIRES_MOST],
+            room: [0; Table::WIRES_MOST],
+            price: [0; Table::CHANNELS_MOST],
+            times: [0; Table::CHANNELS_MOST],
+            deadline: [0; Table::CHANNELS_MOST],
+            hops: [0; Table::CHANNELS_MOST],
+            route: [0; Table::ROUTES_MOST],
+        },
+    }
+}
+
+// What was read, put together.
+fn whole(head: Head, wires: Wires, channels: Channels) -> TableRead
+    ensures { λ r. ⌜ r ≡ wholeOf head wires channels ⌝ }
+{
+    let rate = wires.rate;
+    let prop = wires.prop;
+    let room = wires.room;
+    let price = channels.price;
+    let times = channels.times;
+    let deadline = channels.deadline;
+    let hops = channels.hops;
+    let route = channels.route;
+    TableRead {
+        answer: Reading::Read,
+        table: Table {
+            hyper: head.hyper,
+            wires: head.wires,
+            channels: head.channels,
+            rate,
+            prop,
+            room,
+            price,
+            times,
+            deadline,
+            hops,
+            route,
+        },
+    }
+}
+
+// Header, wires, channels, filling; on a refusal the table is all 0.
+pub fn read(s: &[u8]) -> TableRead
+    ensures { λ r. ⌜ readingReply (r .answer) ≡ reading (now (s .entry)) ⌝ }
+    ensures { λ r. ⌜ r .table ≡ tableLeft (reading (now (s .entry))) (viewOf (now (s .entry))) ⌝ }
+{
+    let head = head_of(s);
+    let answer = head.answer;
+    if let Reading::Refused(number, place) = answer {
+        return refused(number, place);
+    }
+    let wires = wires_of(s, head.wires);
+    let answer = wires.answer;
+    if let Reading::Refused(number, place) = answer {
+        return refused(number, place);
+    }
+    let channels = channels_of(s, head.hyper, head.wires, head.channels);
+    let answer = channels.answer;
+    if let Reading::Refused(number, place) = answer {
+        return refused(number, place);
+    }
+    if let Reading::Refused(number, place) = filling_of(s, channels.end) {
+        return refused(number, place);
+    }
+    whole(head, wires, channels)
 }
