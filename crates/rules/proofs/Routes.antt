@@ -21,7 +21,7 @@ or-right : (a : Bool) {b : Bool} → b ≡ true → a || b ≡ true
 or-right true e = refl
 or-right false e = e
 
-climbs-least : (n least w : ℕ) (xs : List ℕ) → Climbs n least xs → has w xs ≡ true → least ≤ w
+pub climbs-least : (n least w : ℕ) (xs : List ℕ) → Climbs n least xs → has w xs ≡ true → least ≤ w
 unfolding has
 climbs-least n least w [] c h = absurd (true-false (sym h))
 climbs-least n least w (x ∷ xs) c h =

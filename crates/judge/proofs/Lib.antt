@@ -1,0 +1,5 @@
+pub mod Filing
+pub mod Walk
+pub mod Told
+pub mod Walking
+pub mod Limits

@@ -1,0 +1,293 @@
+-- `judge::bounds::walk` meets its contract. The loop's invariant: test 13 from the start is that from wire w, and everything
+-- before wire w is worked out.
+use mathlib.Core.Path.{_≡_, refl, sym, ap, ap₂, _∙_}
+use mathlib.Core.List.{List}
+use Prim.Native.Nat.{ℕ, _+_, _-_, _*_, _/_, _^_, _≤_, _<_}
+use native.Mathlib.Omega.{arith}
+use lib.ListN.{length, getD}
+use borrow.Author.Needs.{needs}
+use Rattle.rules.specs.declared.Reading.{Reading}
+use Rattle.rules.specs.declared.Reading.the-variants as answers
+use Rattle.rules.specs.Words.{up}
+use Rattle.rules.specs.Numbers.{wiresMost, channelsMost}
+use Rattle.rules.specs.Table.{View, viewOf}
+use Rattle.rules.specs.Bounds as bounds
+use Rattle.rules.specs.Judgement.{roomTest}
+use Rattle.rules.specs.Decoded.{column}
+use Rattle.rules.proofs.Sound.{Sound}
+use Rattle.rules.proofs.Columns.{length-column}
+use Rattle.rules.proofs.Search.{FromHere, from-start, from-next, from-stop, from-end}
+use Rattle.table.proofs.Answers.{passage}
+use Rattle.judge.proofs.Told.{Told, told, entry-at}
+use Rattle.judge.proofs.Walk.{delay-up, delay-most}
+use Rattle.judge.proofs.Walking.{Walking, Loaded, loaded, late, spent, backlog-is, walking-start, walking-next, walking-ends, jitter-at, jitter-small, end-at, end-small, jitter-told, shares-small, room-through, room-stops}
+use Rattle.judge.proofs.bounds.walk.Statement.{statement}
+use Rattle.judge.proofs.bounds.walk.Tie as tie
+
+record Here (t : View) (n : ℕ) (answer : Reading) (backlog delay jitter end : List ℕ) (w : ℕ) : Type 0 where
+  pub most : w ≤ n
+  pub none : answer ≡ answers.Read
+  pub search : FromHere (roomTest t) (t .wires) w
+  pub walking : Walking t w backlog delay jitter end
+
+abbrev Inv-loop : tie.InvT-loop
+Inv-loop table list count n hyper rate prop room price times answer₀ backlog₀ delay₀ jitter₀ end₀ w₀ answer backlog delay jitter end w = Here (viewOf table) n answer backlog delay jitter end w
+
+abbrev μ-loop : tie.MeasureT-loop
+μ-loop table list count n hyper rate prop room price times answer₀ backlog₀ delay₀ jitter₀ end₀ w₀ answer backlog delay jitter end w = n - w
+
+loop-holds : tie.Need-loop-holds Inv-loop μ-loop
+loop-holds c =
+    let st = c .before .before .before .before .before .before in
+    record {
+      most = omega arith;
+      none = refl;
+      search = from-start (roomTest (viewOf (st .args .table .now))) (viewOf (st .args .table .now) .wires);
+      walking = walking-start (viewOf (st .args .table .now));
+    }
+
+module _ (c : tie.At-loop Inv-loop μ-loop) where
+  abbrev st : tie.Start Inv-loop μ-loop
+  st = c .before .before .before .before .before .before .before
+
+  abbrev t : View
+  t = viewOf (st .args .table .now)
+
+  abbrev w : ℕ
+  w = c .loop .w
+
+  sound : Sound t
+  sound = st .pre .0
+
+  as-read : Told t (st .args .t)
+  as-read = told t (st .args .t) (st .pre .1 .0)
+
+  full : Loaded t
+  full = loaded (st .args .table .now) sound (st .pre .1 .1 .1)
+
+  walking : Walking t w (c .loop .backlog) (c .loop .delay) (c .loop .jitter) (c .loop .end)
+  walking = c .loop .inv .walking
+
+module _ (c : tie.In-loop Inv-loop μ-loop) where
+  less : w (c .before) < t (c .before) .wires
+  less = omega (arith, c .loop-test .taken, as-read (c .before) .wires)
+
+  most : w (c .before) < wiresMost
+  most = omega (arith, less, sound (c .before) .wires-most)
+
+mul-shares : tie.Need-mul-shares Inv-loop μ-loop
+mul-shares c = omega (arith, most c)
+
+element-copy-out-shares : tie.Need-element-copy-out-shares Inv-loop μ-loop
+element-copy-out-shares c = most c
+
+shares-requires : tie.Need-shares-requires Inv-loop μ-loop
+shares-requires c κs =
+    let turn = c .before .before .before .before in
+    let top = turn .before in
+    (sound top, ((most turn, as-read top .hyper), (st top .pre .1 .1 .0 (w top) (most turn), ((as-read top .price, as-read top .times), (jitter-told (t top) (full top) (w top) _ _ _ _ (walking top) (omega (arith, less turn)), shares-small (t top) (full top) (w top) _ _ _ _ (walking top) (less turn))))))
+
+module _ (c : tie.After-shares Inv-loop μ-loop) where
+  abbrev turn : tie.In-loop Inv-loop μ-loop
+  turn = c .before .before .before .before .before
+
+  abbrev top : tie.At-loop Inv-loop μ-loop
+  top = turn .before
+
+  abbrev bytes : ℕ
+  bytes = c .shares .result / st top .args .t .hyper
+
+  told-backlog : bytes ≡ bounds.backlog (t top) (w top)
+  told-backlog = ap₂ (λ (x y : ℕ). x / y) (c .shares .ensures) (as-read top .hyper) ∙ sym (backlog-is (t top) (w top))
+
+  told-room : getD (st top .args .t .room) (w top) 0 ≡ t top .room (w top)
+  told-room = entry-at wiresMost _ _ _ (as-read top .room) (sound top .wires-most) (w top) (less turn)
+
+div-bytes : tie.Need-div-bytes Inv-loop μ-loop
+div-bytes c = omega (arith, as-read (top c) .hyper, sound (top c) .hyper-least)
+
+mul-if1 : tie.Need-mul-if1 Inv-loop μ-loop
+mul-if1 c = omega (arith, most (turn c))
+
+array-read-if1 : tie.Need-array-read-if1 Inv-loop μ-loop
+array-read-if1 c = most (turn c)
+
+module _ (c : tie.Else1 Inv-loop μ-loop) where
+  abbrev turn2 : tie.In-loop Inv-loop μ-loop
+  turn2 = turn (c .before)
+
+  abbrev top2 : tie.At-loop Inv-loop μ-loop
+  top2 = turn2 .before
+
+  passed : bounds.backlog (t top2) (w top2) ≤ t top2 .room (w top2)
+  passed = omega (arith, told-backlog (c .before), told-room (c .before), c .if1 .left)
+
+  small : bytes (c .before) < 2 ^ 24
+  small = omega (arith, passed, told-backlog (c .before), full top2 .room-lt (w top2))
+
+  told-rate : getD (st top2 .args .t .rate) (w top2) 0 ≡ t top2 .rate (w top2)
+  told-rate = entry-at wiresMost _ _ _ (as-read top2 .rate) (sound top2 .wires-most) (w top2) (less turn2)
+
+  told-prop : getD (st top2 .args .t .prop) (w top2) 0 ≡ t top2 .prop (w top2)
+  told-prop = entry-at wiresMost _ _ _ (as-read top2 .prop) (sound top2 .wires-most) (w top2) (less turn2)
+
+  delay-lt : bounds.delay (t top2) (w top2) < 2 ^ 24
+  delay-lt = omega (arith, delay-most (t top2) (w top2) (sound top2 .rate-least (w top2) (less turn2)), passed, full top2 .room-lt (w top2))
+
+mul-slots : tie.Need-mul-slots Inv-loop μ-loop
+mul-slots c = omega (arith, most (turn2 c))
+
+array-read-slots : tie.Need-array-read-slots Inv-loop μ-loop
+array-read-slots c = most (turn2 c)
+
+slots-requires : tie.Need-slots-requires Inv-loop μ-loop
+slots-requires c κs =
+    let top = top2 c in (
+      omega (arith, told-rate c, sound top .rate-least (w top) (less (turn2 c))),
+      omega (arith, told-rate c, sound top .rate-most (w top) (less (turn2 c)), small c),
+    )
+
+module _ (c : tie.After-slots Inv-loop μ-loop) where
+  abbrev top3 : tie.At-loop Inv-loop μ-loop
+  top3 = top2 (c .before)
+
+  told-delay : c .slots .result ≡ bounds.delay (t top3) (w top3)
+  told-delay = c .slots .ensures ∙ ap₂ up (told-backlog (c .before .before)) (told-rate (c .before)) ∙ sym (delay-up (t top3) (w top3))
+
+  told-spent : c .slots .result + getD (st top3 .args .t .prop) (w top3) 0 ≡ spent (t top3) (w top3)
+  told-spent = ap₂ (λ (x y : ℕ). x + y) told-delay (told-prop (c .before))
+
+  late-lt : late (t top3) (w top3) < 2 ^ 24
+  late-lt = omega (arith, delay-lt (c .before))
+
+  spent-lt : spent (t top3) (w top3) < 2 ^ 25
+  spent-lt = omega (arith, delay-lt (c .before), full top3 .prop-lt (w top3))
+
+mul-backlog : tie.Need-mul-backlog Inv-loop μ-loop
+mul-backlog c = omega (arith, most (turn2 (c .before)))
+
+array-write-backlog : tie.Need-array-write-backlog Inv-loop μ-loop
+array-write-backlog c = most (turn2 (c .before))
+
+mul-delay : tie.Need-mul-delay Inv-loop μ-loop
+mul-delay c = omega (arith, most (turn2 (c .before)))
+
+array-write-delay : tie.Need-array-write-delay Inv-loop μ-loop
+array-write-delay c = most (turn2 (c .before))
+
+mul-raise : tie.Need-mul-raise Inv-loop μ-loop
+mul-raise c = omega (arith, most (turn2 (c .before)))
+
+element-copy-out-raise : tie.Need-element-copy-out-raise Inv-loop μ-loop
+element-copy-out-raise c = most (turn2 (c .before))
+
+less-one-requires : tie.Need-less-one-requires Inv-loop μ-loop
+less-one-requires c κs = search needs
+
+mul-raise-2 : tie.Need-mul-raise-2 Inv-loop μ-loop
+mul-raise-2 c = omega (arith, most (turn2 (c .before .before .before)))
+
+array-read-raise : tie.Need-array-read-raise Inv-loop μ-loop
+array-read-raise c = most (turn2 (c .before .before .before))
+
+add-raise : tie.Need-add-raise Inv-loop μ-loop
+add-raise c = let r = c .before .before in omega (arith, told-spent r, spent-lt r)
+
+module _ (c : tie.After-less-one Inv-loop μ-loop) where
+  abbrev r : tie.After-slots Inv-loop μ-loop
+  r = c .before .before
+
+  told-late : c .less-one .result ≡ late (t (top3 r)) (w (top3 r))
+  told-late = c .less-one .ensures ∙ ap (λ (x : ℕ). x - 1) (told-delay r)
+
+raise-requires : tie.Need-raise-requires Inv-loop μ-loop
+raise-requires c κs =
+    let l = c .before .before in
+    let r = r l in
+    let top = top3 r in
+    let turn = turn2 (r .before) in
+    let inside : w top ≤ t top .wires = omega (arith, less turn) in
+    let so = walking top in (
+      (most turn, sound top .channels-most),
+      (
+        st top .pre .1 .1 .0 (w top) (most turn),
+        (
+          (ap length (so .jitters-told) ∙ length-column channelsMost _ (t top .channels), ap length (so .ends-told) ∙ length-column channelsMost _ (t top .channels)),
+          (
+            λ k less. omega (arith, told-late l, late-lt r, jitter-at (t top) (full top) (w top) _ _ _ _ so inside k less, jitter-small (t top) (full top) (w top) _ _ _ _ so inside k less),
+            λ k less. omega (arith, told-spent r, spent-lt r, end-at (t top) (full top) (w top) _ _ _ _ so inside k less, end-small (t top) (full top) (w top) _ _ _ _ so inside k less),
+          ),
+        ),
+      ),
+    )
+
+add-w : tie.Need-add-w Inv-loop μ-loop
+add-w c = search needs
+
+loop-less : tie.Need-loop-less Inv-loop μ-loop
+loop-less c = search needs
+
+loop-again : tie.Need-loop-again Inv-loop μ-loop
+loop-again c =
+    let l = c .before .before .before in
+    let r = r l in
+    let top = top3 r in
+    let turn = turn2 (r .before) in
+    record {
+      most = omega arith;
+      none = top .loop .inv .none;
+      search = from-next (roomTest (t top)) (t top .wires) (w top) (less turn) (top .loop .inv .search) (room-through (t top) (w top) (passed (r .before)));
+      walking =
+          walking-next (t top) (full top) (w top) _ _ _ _ (walking top) (less turn) (passed (r .before)) _ _ _ _
+          (told-backlog (r .before .before)) (told-delay r) (told-late l) (told-spent r) _ _ (c .raise .ensures .0) (c .raise .ensures .1);
+    }
+
+returns : tie.Need-returns Inv-loop μ-loop
+returns c =
+    let top = c .before in
+    let all : w top ≡ t top .wires = omega (arith, top .loop .inv .most, c .loop-test .left, as-read top .wires) in
+    passage _ _ (top .loop .inv .none) (from-end (roomTest (t top)) (t top .wires) (w top) (omega arith) (top .loop .inv .search))
+    (record {
+      backlogs = walking top .backlogs-told ∙ ap (λ (k : ℕ). column wiresMost k (bounds.backlog (t top))) all;
+      delays = walking top .delays-told ∙ ap (λ (k : ℕ). column wiresMost k (bounds.delay (t top))) all;
+      ends = walking-ends (t top) (sound top) (w top) all _ (walking top .ends-told);
+    })
+
+returns-2 : tie.Need-returns-2 Inv-loop μ-loop
+returns-2 c =
+    let r = c .before in
+    let top = top r in
+    (from-stop (roomTest (t top)) (t top .wires) (w top) (less (turn r)) (top .loop .inv .search) (room-stops (t top) (w top) (omega (arith, told-backlog r, told-room r, c .if1 .taken))), tt)
+
+pub walk-spec : {M : Type 1} → statement M
+walk-spec =
+    tie.close
+    (tie.spec
+    Inv-loop
+    μ-loop
+    loop-holds
+    mul-shares
+    element-copy-out-shares
+    shares-requires
+    div-bytes
+    mul-if1
+    array-read-if1
+    mul-slots
+    array-read-slots
+    slots-requires
+    mul-backlog
+    array-write-backlog
+    mul-delay
+    array-write-delay
+    mul-raise
+    element-copy-out-raise
+    less-one-requires
+    mul-raise-2
+    array-read-raise
+    add-raise
+    raise-requires
+    add-w
+    loop-less
+    loop-again
+    returns
+    returns-2)
