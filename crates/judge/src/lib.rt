@@ -1,0 +1,2 @@
+// Judging a table.
+mod writing;
