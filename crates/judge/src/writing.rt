@@ -53,7 +53,12 @@ fn put_head(sheet: &mut [u8], n: usize, m: usize)
     bits::write(sheet, Table::WIRES_BITS, Table::CHANNELS_BITS, m as u64);
 }
 
-fn put_wires(sheet: &mut [u8], n: usize, backlog: &[u64; Table::WIRES_MOST], delay: &[u64; Table::WIRES_MOST])
+fn put_wires(
+    sheet: &mut [u8],
+    n: usize,
+    backlog: &[u64; Table::WIRES_MOST],
+    delay: &[u64; Table::WIRES_MOST],
+)
     requires { ⌜ (n ≤ wiresMost) × (figuresAt n ≤ 8 * length (now sheet)) ⌝ }
     requires { ⌜ ((w : ℕ) → w < n → entries (now backlog) w < 2 ^ backlogBits) ⌝ }
     requires { ⌜ ((w : ℕ) → w < n → entries (now delay) w < 2 ^ delayBits) ⌝ }

@@ -5,9 +5,6 @@ use Rattle.rules.specs.Sheet.{figuresAt, endAt}
 use borrow.Author.Needs.{needs}
 use Rattle.judge.proofs.writing.end_at.Statement.{statement}
 use Rattle.judge.proofs.writing.end_at.Tie as tie
-use Rattle.judge.proofs.writing.end_at.Reads as reads
-use Rattle.judge.proofs.writing.end_at.Lts as lts
-use Rattle.judge.proofs.writing.figures_at.Reads as figures-at-reads
 
 figures-at-requires : tie.Need-figures-at-requires
 figures-at-requires c κs = search needs

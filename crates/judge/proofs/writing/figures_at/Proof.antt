@@ -5,8 +5,6 @@ use Rattle.rules.specs.Sheet.{figuresAt}
 use borrow.Author.Needs.{needs}
 use Rattle.judge.proofs.writing.figures_at.Statement.{statement}
 use Rattle.judge.proofs.writing.figures_at.Tie as tie
-use Rattle.judge.proofs.writing.figures_at.Reads as reads
-use Rattle.judge.proofs.writing.figures_at.Lts as lts
 
 mul-result : tie.Need-mul-result
 mul-result c = search needs

@@ -9,8 +9,6 @@ use lib.Seq.{drop-length}
 use borrow.Author.Fill.{fill-more}
 use Rattle.judge.proofs.writing.fill.Statement.{statement}
 use Rattle.judge.proofs.writing.fill.Tie as tie
-use Rattle.judge.proofs.writing.fill.Reads as reads
-use Rattle.judge.proofs.writing.fill.Lts as lts
 
 abbrev Inv-loop : tie.InvT-loop
 Inv-loop buf₀ v i₀ i-end buf i = (i-end ≡ length buf₀) × (i ≤ i-end) × (length buf ≡ length buf₀) × (buf ≡ replicate i v ++ drop i buf₀)
@@ -31,10 +29,9 @@ loop-less : tie.Need-loop-less Inv-loop μ-loop
 loop-less c = omega arith
 
 loop-again : tie.Need-loop-again Inv-loop μ-loop
-loop-again c = 
+loop-again c =
     let lp = c .before in
-    let a = lp .before .args in
-    (
+    let a = lp .before .args in (
       refl,
       omega arith,
       simp length-set (lp .loop .inv .2),
@@ -45,7 +42,7 @@ same-length : tie.Need-same-length Inv-loop μ-loop
 same-length c = omega arith
 
 returns : tie.Need-returns Inv-loop μ-loop
-returns c = 
+returns c =
     let lp = c .before in
     let a = lp .before .args in
     let e : lp .loop .i ≡ length (a .buf .now) = omega arith in

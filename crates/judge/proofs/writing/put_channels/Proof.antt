@@ -10,10 +10,6 @@ use Rattle.judge.specs.Arrays.{entries}
 use Rattle.judge.proofs.Putting.{channel-put}
 use Rattle.judge.proofs.writing.put_channels.Statement.{statement}
 use Rattle.judge.proofs.writing.put_channels.Tie as tie
-use Rattle.judge.proofs.writing.put_channels.Reads as reads
-use Rattle.judge.proofs.writing.put_channels.Lts as lts
-use Rattle.bits.proofs.write.Reads as write-reads
-use Rattle.judge.proofs.writing.end_at.Reads as end-at-reads
 
 abbrev Inv-loop : tie.InvT-loop
 Inv-loop sheet₀ n m end k₀ sheet k = (k ≤ m) × (length sheet ≡ length sheet₀) × (sheet ≡ withChannels n (entries end) k sheet₀)
@@ -45,24 +41,23 @@ loop-less c = omega arith
 
 loop-again : tie.Need-loop-again Inv-loop μ-loop
 unfolding endAt
-loop-again c = 
+loop-again c =
     let w = c .before .before in
     let at = w .before .before in
     let lp = at .before .before .before in
-    let st = lp .before .before in
-    (
+    let st = lp .before .before in (
       omega arith,
       omega (arith, w .write .kept .0),
       w .write .ensures .1
-      ∙ channel-put (st .args .sheet .now) (lp .loop .sheet) (at .end-at .result) (st .args .n) (entries (st .args .end .now)) (lp .loop .k)
-      (lp .loop .inv .2) (at .end-at .ensures) (omega arith) (st .pre .1 (lp .loop .k) (omega arith)),
+          ∙ channel-put (st .args .sheet .now) (lp .loop .sheet) (at .end-at .result) (st .args .n) (entries (st .args .end .now)) (lp .loop .k)
+          (lp .loop .inv .2) (at .end-at .ensures) (omega arith) (st .pre .1 (lp .loop .k) (omega arith)),
     )
 
 same-length : tie.Need-same-length Inv-loop μ-loop
 same-length c = omega arith
 
 returns : tie.Need-returns Inv-loop μ-loop
-returns c = 
+returns c =
     let a = c .before .before .before .args in
     let e : c .before .loop .k ≡ a .m = omega arith in
     c .before .loop .inv .2 ∙ ap (λ (k : ℕ). withChannels (a .n) (entries (a .end .now)) k (a .sheet .now)) e

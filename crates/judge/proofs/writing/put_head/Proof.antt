@@ -3,9 +3,6 @@ use mathlib.Core.Path.{_∙_}
 use Rattle.judge.proofs.Putting.{head-put}
 use Rattle.judge.proofs.writing.put_head.Statement.{statement}
 use Rattle.judge.proofs.writing.put_head.Tie as tie
-use Rattle.judge.proofs.writing.put_head.Reads as reads
-use Rattle.judge.proofs.writing.put_head.Lts as lts
-use Rattle.bits.proofs.write.Reads as write-reads
 
 -- src/writing.rt:52:5
 write-requires : tie.Need-write-requires
@@ -21,7 +18,7 @@ same-length c = search needs
 
 -- src/writing.rt:48:1
 returns : tie.Need-returns
-returns c = 
+returns c =
     let second = c .before .before in
     let first = second .before .before .before .before in
     let st = first .before .before .before in

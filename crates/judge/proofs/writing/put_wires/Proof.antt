@@ -10,10 +10,6 @@ use Rattle.judge.specs.Arrays.{entries}
 use Rattle.judge.proofs.Putting.{wire-put}
 use Rattle.judge.proofs.writing.put_wires.Statement.{statement}
 use Rattle.judge.proofs.writing.put_wires.Tie as tie
-use Rattle.judge.proofs.writing.put_wires.Reads as reads
-use Rattle.judge.proofs.writing.put_wires.Lts as lts
-use Rattle.bits.proofs.write.Reads as write-reads
-use Rattle.judge.proofs.writing.figures_at.Reads as figures-at-reads
 
 abbrev Inv-loop : tie.InvT-loop
 Inv-loop sheet₀ n backlog delay w₀ sheet w = (w ≤ n) × (length sheet ≡ length sheet₀) × (sheet ≡ withWires (entries backlog) (entries delay) w sheet₀)
@@ -58,26 +54,25 @@ loop-less c = omega arith
 
 loop-again : tie.Need-loop-again Inv-loop μ-loop
 unfolding figuresAt
-loop-again c = 
+loop-again c =
     let second = c .before .before in
     let first = second .before .before .before .before .before in
     let at = first .before .before .before in
     let lp = at .before .before in
-    let st = lp .before .before in
-    (
+    let st = lp .before .before in (
       omega arith,
       omega (arith, second .write2 .kept .0, first .write .kept .0),
       second .write2 .ensures .1
-      ∙ rw (first .write .ensures .1)
-      (wire-put (st .args .sheet .now) (lp .loop .sheet) (at .figures-at .result) (entries (st .args .backlog .now)) (entries (st .args .delay .now)) (lp .loop .w)
-      (lp .loop .inv .2) (at .figures-at .ensures) (omega arith) (st .pre .1 .0 (lp .loop .w) (omega arith)) (st .pre .1 .1 (lp .loop .w) (omega arith))),
+          ∙ rw (first .write .ensures .1)
+          (wire-put (st .args .sheet .now) (lp .loop .sheet) (at .figures-at .result) (entries (st .args .backlog .now)) (entries (st .args .delay .now)) (lp .loop .w)
+          (lp .loop .inv .2) (at .figures-at .ensures) (omega arith) (st .pre .1 .0 (lp .loop .w) (omega arith)) (st .pre .1 .1 (lp .loop .w) (omega arith))),
     )
 
 same-length : tie.Need-same-length Inv-loop μ-loop
 same-length c = omega arith
 
 returns : tie.Need-returns Inv-loop μ-loop
-returns c = 
+returns c =
     let a = c .before .before .before .args in
     let e : c .before .loop .w ≡ a .n = omega arith in
     c .before .loop .inv .2 ∙ ap (λ (w : ℕ). withWires (entries (a .backlog .now)) (entries (a .delay .now)) w (a .sheet .now)) e

@@ -5,9 +5,6 @@ use Rattle.rules.specs.Sheet.{figuresAt, endAt, sheetLength}
 use borrow.Author.Needs.{needs}
 use Rattle.judge.proofs.writing.sheet_length.Statement.{statement}
 use Rattle.judge.proofs.writing.sheet_length.Tie as tie
-use Rattle.judge.proofs.writing.sheet_length.Reads as reads
-use Rattle.judge.proofs.writing.sheet_length.Lts as lts
-use Rattle.judge.proofs.writing.end_at.Reads as end-at-reads
 
 end-at-requires : tie.Need-end-at-requires
 end-at-requires c κs = search needs
