@@ -1,21 +1,21 @@
 -- Asking: a sheet as written gives its figures and 19 for other numbers; what is no sheet gives one refusal to all.
 -- Assumes nothing.
-use mathlib.Core.Path.{_≡_, refl, ap, _∙_}
+use mathlib.Core.Path.{_≡_, refl, sym, ap, ap₂, _∙_}
 use mathlib.Core.List.{List, [], _∷_, _++_}
 use Prim.Native.Nat.{ℕ, zero, suc, _+_, _-_, _≤_, _<_}
 use native.Mathlib.Omega.{arith}
 use lib.ListN.{length, take, drop, replicate, length-append, length-replicate}
 use lib.Seq.{take-at, drop-at}
-use lib.Dec.{eqb}
-use borrow.Author.Tests.{le-leb, lt-leb, lt-ltb, le-ltb, eq-eqb, ne-eqb}
+use borrow.Author.Tests.{le-leb, lt-ltb, le-ltb}
 use Rattle.bits.specs.Field.{bit, field, Bytes}
 use Rattle.bits.proofs.Laws.{field-append}
-use Rattle.rules.specs.Numbers.{wiresBits, wiresMost, channelsBits, channelsMost}
+use Rattle.rules.specs.Numbers.{wiresBits, channelsBits}
 use Rattle.rules.specs.Replies.{Reply, granted, refused, test}
 use Rattle.rules.specs.Table.{View, viewOf, fillingOf}
 use Rattle.rules.specs.Bounds.{backlog, delay, endToEnd}
 use Rattle.rules.specs.Sheet.{endAt, sheetLength, sheetOf, sheetWires, sheetChannels, sheetTests, askWire, askChannel}
 use Rattle.rules.specs.Judgement.{lengthOf, judge, sheet, leaves, buffer}
+use Rattle.rules.proofs.SheetReplies.{Counted, tests-short, tests-length, tests-pass}
 use Rattle.rules.proofs.SheetLaws.{Fits, sheet-shortest, length-sheetOf, bytes-sheetOf, filling-sheetOf, wires-sheetOf, channels-sheetOf, backlog-sheetOf, delay-sheetOf, end-sheetOf}
 
 -- asked of s for any wire or channel, the reply is r
@@ -36,29 +36,26 @@ always s r h i = (h _, h _)
 -- ---- a sheet as written, and with more behind it
 
 module _ (n m : ℕ) (b d e : ℕ → ℕ) (fits : Fits n m b d e) where
-  -- where the counts are those of the sheet, what is left are the tests of length and filling
-  counted : (s : List ℕ) (rest : Reply) → 2 ≤ length s → sheetWires s ≡ n → sheetChannels s ≡ m
-      → sheetTests s rest ≡ test (eqb (length s) (sheetLength n m)) 16 0 (test (eqb (fillingOf s (endAt n m)) 0) 18 0 rest)
-  unfolding sheetTests test
-  counted s rest two wires channels =
-      rw (
-        wires,
-        channels,
-        le-leb 2 (length s),
-        le-leb 1 n (fits .wires-least),
-        le-leb n wiresMost (fits .wires-most),
-        le-leb 1 m (fits .channels-least),
-        le-leb m channelsMost (fits .channels-most),
-      )
+  counted : (s : List ℕ) → 2 ≤ length s → sheetWires s ≡ n → sheetChannels s ≡ m → Counted s
+  counted s two wires channels =
+      record {
+        two-bytes = two;
+        wires-least = omega arith;
+        wires-most = omega arith;
+        channels-least = omega arith;
+        channels-most = omega arith;
+      }
 
   two-bytes : 2 ≤ length (sheetOf n m b d e)
   two-bytes = rw length-sheetOf (sheet-shortest n m)
 
   tests-sheetOf : (rest : Reply) → sheetTests (sheetOf n m b d e) rest ≡ rest
-  unfolding test
+  unfolding sheetLength fillingOf
   tests-sheetOf rest =
-      counted (sheetOf n m b d e) rest two-bytes (wires-sheetOf n m b d e fits) (channels-sheetOf n m b d e fits)
-      ∙ rw (eq-eqb _ _ (length-sheetOf n m b d e), eq-eqb _ _ (filling-sheetOf n m b d e))
+      let wires : sheetWires (sheetOf n m b d e) ≡ n = wires-sheetOf n m b d e fits in
+      let channels : sheetChannels (sheetOf n m b d e) ≡ m = channels-sheetOf n m b d e fits in
+      tests-pass (sheetOf n m b d e) rest (counted _ two-bytes wires channels) (endAt n m) (ap₂ endAt (sym wires) (sym channels))
+      (length-sheetOf n m b d e) (filling-sheetOf n m b d e)
 
   pub ask-written : Answers (sheetOf n m b d e) n m b d e
   unfolding askWire askChannel test
@@ -74,23 +71,23 @@ module _ (n m : ℕ) (b d e : ℕ → ℕ) (fits : Fits n m b d e) where
 
   -- with bytes behind it a sheet has not the length that its counts need
   pub ask-longer : (t : List ℕ) → 1 ≤ length t → Always (sheetOf n m b d e ++ t) (refused 16 0)
-  unfolding sheetWires sheetChannels test
+  unfolding sheetWires sheetChannels sheetLength
   ask-longer t l =
       let s : List ℕ = sheetOf n m b d e in
       let two : 2 ≤ length s = two-bytes in
       let more : length (s ++ t) ≡ length s + length t = length-append s t in
+      let wires : sheetWires (s ++ t) ≡ n = field-append s t 0 wiresBits (omega arith) ∙ wires-sheetOf n m b d e fits in
+      let channels : sheetChannels (s ++ t) ≡ m
+      = field-append s t wiresBits channelsBits (omega arith) ∙ channels-sheetOf n m b d e fits in
       always (s ++ t) (refused 16 0) (λ rest.
-      counted (s ++ t) rest (omega arith)
-      (field-append s t 0 wiresBits (omega arith) ∙ wires-sheetOf n m b d e fits)
-      (field-append s t wiresBits channelsBits (omega arith) ∙ channels-sheetOf n m b d e fits)
-      ∙ rw (ne-eqb (length (s ++ t)) (sheetLength n m) (λ q. omega (arith, length-sheetOf n m b d e))))
+      tests-length (s ++ t) rest (counted (s ++ t) (omega arith) wires channels) (endAt n m) (ap₂ endAt (sym wires) (sym channels))
+      (λ q. omega (arith, length-sheetOf n m b d e)))
 
 -- ---- what a refusal left
 
 -- fewer than 2 bytes
 pub ask-short : (s : List ℕ) → length s < 2 → Always s (refused 16 0)
-unfolding sheetTests test
-ask-short s l = always s (refused 16 0) (λ rest. rw (lt-leb 2 (length s) l))
+ask-short s l = always s (refused 16 0) (λ rest. tests-short s rest l)
 
 -- what a refusal of a table leaves: no sheet of any table
 abbrev pub NoSheet : ℕ → List ℕ → Type 0

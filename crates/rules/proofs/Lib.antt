@@ -18,6 +18,7 @@ pub mod Replies
 pub mod Routes
 pub mod Server
 pub mod SheetLaws
+pub mod SheetReplies
 pub mod Sound
 pub mod Sums
 pub mod Tests
