@@ -1,5 +1,6 @@
 pub mod Asking
 pub mod Cases
+pub mod Columns
 pub mod Delays
 pub mod Figures
 pub mod Fits
@@ -16,6 +17,7 @@ pub mod Promised
 pub mod ReadingLaws
 pub mod Replies
 pub mod Routes
+pub mod Search
 pub mod Server
 pub mod SheetLaws
 pub mod SheetReplies
