@@ -25,3 +25,4 @@ pub mod Sound
 pub mod Sums
 pub mod Tests
 pub mod Witnesses
+pub mod Written

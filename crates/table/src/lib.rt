@@ -92,7 +92,11 @@ fn head_of(s: &[u8]) -> Head
     }
     let hyper = field_at(s, 0, Table::HYPER_BITS);
     let wires = field_at(s, Table::HYPER_BITS, Table::WIRES_BITS) as usize;
-    let channels = field_at(s, Table::HYPER_BITS + Table::WIRES_BITS, Table::CHANNELS_BITS) as usize;
+    let channels = field_at(
+        s,
+        Table::HYPER_BITS + Table::WIRES_BITS,
+        Table::CHANNELS_BITS,
+    ) as usize;
     if hyper < 1 {
         return no_head(2);
     }
@@ -143,7 +147,11 @@ fn wires_of(s: &[u8], n: usize) -> Wires
         }
         rate[w] = bytes;
         prop[w] = field_at(s, at + Table::RATE_BITS, Table::PROP_BITS);
-        room[w] = field_at(s, at + Table::RATE_BITS + Table::PROP_BITS, Table::ROOM_BITS);
+        room[w] = field_at(
+            s,
+            at + Table::RATE_BITS + Table::PROP_BITS,
+            Table::ROOM_BITS,
+        );
     }
     Wires {
         answer: found,

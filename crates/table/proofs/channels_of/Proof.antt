@@ -326,16 +326,20 @@ returns-2 c =
 returns-3 : tie.Need-returns-3 Inv-loop μ-loop Inv-search μ-search
 returns-3 c =
     let w = c .before in
-    let f = called (channel w) in
-    (stop f 9 (k f) (λ rest. left (channel w) rest
-    ∙ hops-9 (s f) (n f) (k f) (from f + fixedBits) (count (channel w)) (hop w .loop .i) (hop w .loop .least) (omega arith) (hop w .loop .inv .hops) (wire w) (wire-is w) (omega arith) rest), tt)
+    let f = called (channel w) in (
+      stop f 9 (k f) (λ rest. left (channel w) rest
+          ∙ hops-9 (s f) (n f) (k f) (from f + fixedBits) (count (channel w)) (hop w .loop .i) (hop w .loop .least) (omega arith) (hop w .loop .inv .hops) (wire w) (wire-is w) (omega arith) rest),
+      tt,
+    )
 
 returns-4 : tie.Need-returns-4 Inv-loop μ-loop Inv-search μ-search
 returns-4 c =
     let w = c .before .before in
-    let f = called (channel w) in
-    (stop f 10 (k f) (λ rest. left (channel w) rest
-    ∙ hops-10 (s f) (n f) (k f) (from f + fixedBits) (count (channel w)) (hop w .loop .i) (hop w .loop .least) (omega arith) (hop w .loop .inv .hops) (wire w) (wire-is w) (omega arith) (omega arith) rest), tt)
+    let f = called (channel w) in (
+      stop f 10 (k f) (λ rest. left (channel w) rest
+          ∙ hops-10 (s f) (n f) (k f) (from f + fixedBits) (count (channel w)) (hop w .loop .i) (hop w .loop .least) (omega arith) (hop w .loop .inv .hops) (wire w) (wire-is w) (omega arith) (omega arith) rest),
+      tt,
+    )
 
 pub channels-of-spec : {M : Type 1} → statement M
 channels-of-spec =

@@ -193,16 +193,17 @@ returns-8 c =
     let f = fields g in
     let holds = c .before .before .before .before .holds2 in
     let route : at (st f) + fixedBits + hopBits * f .field-at3 .result ≤ 8 * length (s (st f))
-    = leb-true _ _ (sym (holds .ensures) ∙ not-false (holds .result) (c .before .before .before .if7 .left)) in
-    (record-hops (s (st f)) (st f .args .c) (at (st f)) (there f) (some g) (divides g) (omega (arith, hops f)) (omega (arith, hops f, route)),
-    record {
-      price = c .before .price-of .ensures ∙ ap₂ price (framing (c .before .before)) (payload f);
-      times = ap₂ (λ (h p : ℕ). h / p) (st f .pre .0) (period f);
-      deadline = deadline c;
-      hops = hops f;
-      hops-most = omega arith;
-      route-inside = route;
-    })
+    = leb-true _ _ (sym (holds .ensures) ∙ not-false (holds .result) (c .before .before .before .if7 .left)) in (
+      record-hops (s (st f)) (st f .args .c) (at (st f)) (there f) (some g) (divides g) (omega (arith, hops f)) (omega (arith, hops f, route)),
+      record {
+        price = c .before .price-of .ensures ∙ ap₂ price (framing (c .before .before)) (payload f);
+        times = ap₂ (λ (h p : ℕ). h / p) (st f .pre .0) (period f);
+        deadline = deadline c;
+        hops = hops f;
+        hops-most = omega arith;
+        route-inside = route;
+      },
+    )
 
 pub fixed-of-spec : {M : Type 1} → statement M
 fixed-of-spec =

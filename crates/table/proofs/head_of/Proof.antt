@@ -115,16 +115,17 @@ returns-7 c =
 
 returns-8 : tie.Need-returns-8
 returns-8 c =
-    let f = c .before .before .before .before .before .before in
-    (head-passes (s f) (there f) (omega (arith, hyper f)) (omega (arith, wires f)) (omega (arith, channels f)),
-    record {
-      hyper = hyper f;
-      wires = wires f;
-      channels = channels f;
-      wires-most = omega arith;
-      channels-least = omega arith;
-      channels-most = omega arith;
-    })
+    let f = c .before .before .before .before .before .before in (
+      head-passes (s f) (there f) (omega (arith, hyper f)) (omega (arith, wires f)) (omega (arith, channels f)),
+      record {
+        hyper = hyper f;
+        wires = wires f;
+        channels = channels f;
+        wires-most = omega arith;
+        channels-least = omega arith;
+        channels-most = omega arith;
+      },
+    )
 
 pub head-of-spec : {M : Type 1} → statement M
 head-of-spec =

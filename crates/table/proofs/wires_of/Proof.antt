@@ -184,9 +184,11 @@ returns-2 c =
 returns-3 : tie.Need-returns-3 Inv-loop μ-loop
 returns-3 c =
     let r = c .before in
-    let i = top r in
-    (from-stop (wireTests (s i)) (n i) (w i) (omega arith) (i .before .loop .inv .search)
-    (wire-5 (s i) (w i) (inside (r .before .before)) (no-rate (codeOf (s i) (w i)) (sym (coded r) ∙ c .if2 .taken))), tt)
+    let i = top r in (
+      from-stop (wireTests (s i)) (n i) (w i) (omega arith) (i .before .loop .inv .search)
+          (wire-5 (s i) (w i) (inside (r .before .before)) (no-rate (codeOf (s i) (w i)) (sym (coded r) ∙ c .if2 .taken))),
+      tt,
+    )
 
 pub wires-of-spec : {M : Type 1} → statement M
 wires-of-spec =
