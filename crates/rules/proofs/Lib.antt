@@ -21,6 +21,7 @@ pub mod Search
 pub mod Server
 pub mod SheetLaws
 pub mod SheetReplies
+pub mod Small
 pub mod Sound
 pub mod Sums
 pub mod Tests
