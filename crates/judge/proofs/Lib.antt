@@ -3,3 +3,4 @@ pub mod Walk
 pub mod Told
 pub mod Walking
 pub mod Limits
+pub mod Putting

@@ -1,2 +1,3 @@
 pub mod Figures
 pub mod Filed
+pub mod Arrays

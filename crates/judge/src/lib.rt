@@ -1,2 +1,3 @@
 // Judging a table.
 mod bounds;
+mod writing;

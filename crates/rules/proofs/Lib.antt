@@ -21,7 +21,9 @@ pub mod Search
 pub mod Server
 pub mod SheetLaws
 pub mod SheetReplies
+pub mod Small
 pub mod Sound
 pub mod Sums
 pub mod Tests
 pub mod Witnesses
+pub mod Written

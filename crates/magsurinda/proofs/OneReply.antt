@@ -1,0 +1,31 @@
+-- No two replies that differ meet a function's contract on the same arguments.
+use mathlib.Core.Path.{_≡_, sym, _∙_}
+use contract.Lifetimes.{Lfts}
+use denote.Triple.Clauses.{AtExit}
+use borrow.Fn.World.{ArgsD, ResD}
+use borrow.Fn.Kinds.{endedOf}
+use Rattle.magsurinda.proofs.magsurinda_price as price
+use Rattle.magsurinda.proofs.magsurinda_price.Kinds as price-kinds
+use Rattle.magsurinda.proofs.magsurinda_price.Reads as price-reads
+use Rattle.magsurinda.proofs.magsurinda_ask_wire as ask-wire
+use Rattle.magsurinda.proofs.magsurinda_ask_wire.Kinds as ask-wire-kinds
+use Rattle.magsurinda.proofs.magsurinda_ask_wire.Reads as ask-wire-reads
+use Rattle.magsurinda.proofs.magsurinda_ask_channel as ask-channel
+use Rattle.magsurinda.proofs.magsurinda_ask_channel.Kinds as ask-channel-kinds
+use Rattle.magsurinda.proofs.magsurinda_ask_channel.Reads as ask-channel-reads
+
+pub price-one :
+    (κs : Lfts 0) (a : ArgsD price.signature κs) (r r' : ResD price.signature κs) (e e' : AtExit (endedOf 0 price-kinds.ps price-kinds.r) κs) →
+    price-reads.Post κs a r e → price-reads.Post κs a r' e' → r ≡ r'
+price-one κs a r r' e e' p q = p ∙ sym q
+
+module _ (κs : Lfts 1) where
+  pub ask-wire-one :
+      (a : ArgsD ask-wire.signature κs) (r r' : ResD ask-wire.signature κs) (e e' : AtExit (endedOf 1 ask-wire-kinds.ps ask-wire-kinds.r) κs) →
+      ask-wire-reads.Post κs a r e → ask-wire-reads.Post κs a r' e' → r ≡ r'
+  ask-wire-one a r r' e e' p q = p ∙ sym q
+
+  pub ask-channel-one :
+      (a : ArgsD ask-channel.signature κs) (r r' : ResD ask-channel.signature κs) (e e' : AtExit (endedOf 1 ask-channel-kinds.ps ask-channel-kinds.r) κs) →
+      ask-channel-reads.Post κs a r e → ask-channel-reads.Post κs a r' e' → r ≡ r'
+  ask-channel-one a r r' e e' p q = p ∙ sym q

@@ -1,0 +1,63 @@
+// The C face: each reply in 64 bits.
+ghost use mathlib.Core.Path.{_≡_};
+ghost use Prim.Native.Nat.{_+_, _*_, _^_, _<_};
+ghost use Rattle.rules.specs.Price.{askPrice};
+ghost use Rattle.rules.specs.Sheet.{askWire, askChannel};
+ghost use Rattle.magsurinda.specs.Packed.{packing, packed, only, figures};
+use rules::AskedChannel;
+use rules::AskedWire;
+use rules::Pricing;
+
+// One of a refusal's number, of its place, and of a wire's backlog.
+const NUMBER: u64 = 1 << 56;
+
+const PLACE: u64 = 1 << 48;
+
+const BACKLOG: u64 = 1 << 24;
+
+fn pack(number: u64, place: u64, value: u64) -> u64
+    requires { ⌜ (number < 2 ^ 8) × (place < 2 ^ 8) × (value < 2 ^ 48) ⌝ }
+    ensures { λ r. ⌜ r ≡ packing number place value ⌝ }
+{
+    number * NUMBER + place * PLACE + value
+}
+
+#[no_mangle]
+pub extern "C" fn magsurinda_price(framing: u64, payload: u64) -> u64
+    ensures { λ r. ⌜ r ≡ packed only (askPrice framing payload) ⌝ }
+{
+    let answer = framing::price(framing, payload);
+    match answer {
+        Pricing::Price(price) => pack(0, 0, price),
+        Pricing::Refused(number, place) => pack(number, place, 0),
+    }
+}
+
+#[no_mangle]
+pub extern "C" fn magsurinda_ask_wire(sheet: &[u8], wire: u64) -> u64
+    ensures { λ r. ⌜ r ≡ packed figures (askWire (now (sheet .entry)) wire) ⌝ }
+{
+    let answer = sheet::ask_wire(sheet, wire);
+    match answer {
+        AskedWire::Figures(backlog, delay) => pack_figures(backlog, delay),
+        AskedWire::Refused(number, place) => pack(number, place, 0),
+    }
+}
+
+fn pack_figures(backlog: u64, delay: u64) -> u64
+    requires { ⌜ (backlog < 2 ^ 24) × (delay < 2 ^ 24) ⌝ }
+    ensures { λ r. ⌜ r ≡ packing 0 0 (backlog * 2 ^ 24 + delay) ⌝ }
+{
+    pack(0, 0, backlog * BACKLOG + delay)
+}
+
+#[no_mangle]
+pub extern "C" fn magsurinda_ask_channel(sheet: &[u8], channel: u64) -> u64
+    ensures { λ r. ⌜ r ≡ packed only (askChannel (now (sheet .entry)) channel) ⌝ }
+{
+    let answer = sheet::ask_channel(sheet, channel);
+    match answer {
+        AskedChannel::Delay(delay) => pack(0, 0, delay),
+        AskedChannel::Refused(number, place) => pack(number, place, 0),
+    }
+}
