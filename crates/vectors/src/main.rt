@@ -1,0 +1,66 @@
+// Runs vectors over the proved crates. Of each line of standard input, a case, it writes the reply as it stands after the
+// line's `->`, which it never reads.
+use libc::STDIN_FILENO;
+use libc::STDOUT_FILENO;
+use rules::Pricing;
+
+mod text;
+
+fn put(s: &[u8]) {
+    io::write_all(STDOUT_FILENO, s);
+}
+
+// A blank and a number.
+fn put_number(n: u64) {
+    put(b" ");
+    io::print_decimal(STDOUT_FILENO, n);
+}
+
+fn put_refusal(number: u64, place: u64) {
+    put(b"R");
+    put_number(number);
+    put_number(place);
+}
+
+// framing payload
+fn price(words: &[u8]) {
+    match framing::price(text::number(words), text::number(text::rest(words))) {
+        Pricing::Price(bytes) => {
+            put(b"V");
+            put_number(bytes);
+        }
+        Pricing::Refused(number, place) => put_refusal(number, place),
+    }
+}
+
+fn case(line: &[u8]) {
+    let words = text::rest(line);
+    match text::kind(line) {
+        b'P' => price(words),
+        _ => put(b"no such case"),
+    }
+    put(b"\n");
+}
+
+fn cases(s: &[u8]) {
+    let mut at = 0;
+    while at < s.len() {
+        let n = text::find(&s[at..], b'\n');
+        let end = at + n;
+        case(&s[at..end]);
+        if end == s.len() {
+            return;
+        }
+        at = end + 1;
+    }
+}
+
+fn main() {
+    let mut input = [0u8; 400_000];
+    let n = io::read_full(STDIN_FILENO, &mut input);
+    if n == input.len() {
+        put(b"input too long\n");
+        return;
+    }
+    cases(&input[..n]);
+}
