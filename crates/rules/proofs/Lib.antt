@@ -2,6 +2,7 @@ pub mod Asking
 pub mod Cases
 pub mod Fits
 pub mod SheetLaws
+pub mod SheetReplies
 pub mod Sound
 pub mod Prices
 pub mod Replies

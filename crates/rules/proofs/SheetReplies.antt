@@ -1,0 +1,164 @@
+-- Asking a sheet, by its replies: what each test refuses, and what is known where all are passed.
+-- Assumes nothing.
+use mathlib.Core.Path.{_≡_, refl, sym, ap, ap₂, _∙_}
+use mathlib.Core.Logic.{_⊎_, inl, inr, _≢_}
+use mathlib.Core.List.{List, [], _∷_}
+use Prim.Native.Nat.{ℕ, zero, suc, _+_, _-_, _*_, _≤_, _<_}
+use native.Mathlib.Omega.{arith}
+use native.Mathlib.Decide.{decLe, ℕ-discrete}
+use lib.ListN.{length}
+use lib.Dec.{eqb}
+use borrow.Author.Tests.{le-leb, lt-leb, lt-ltb, le-ltb, eq-eqb, ne-eqb}
+use Rattle.bits.specs.Field.{field}
+use Rattle.rules.specs.Words.{up}
+use Rattle.rules.specs.Numbers.{wiresMost, channelsMost, backlogBits, delayBits, endBits}
+use Rattle.rules.specs.Replies.{Reply, granted, refused, test}
+use Rattle.rules.specs.Table.{fillingOf}
+use Rattle.rules.specs.Sheet.{figuresAt, endAt, sheetLength, sheetWires, sheetChannels, sheetTests, askWire, askChannel}
+
+-- a count outside its range
+abbrev pub Outside : ℕ → ℕ → Type 0
+Outside count most = (count < 1) ⊎ (most < count)
+
+-- ---- the tests, by the first that fails
+
+module _ (s : List ℕ) (rest : Reply) where
+  pub tests-short : length s < 2 → sheetTests s rest ≡ refused 16 0
+  unfolding sheetTests test
+  tests-short l = rw (lt-leb 2 (length s) l)
+
+  module _ (two : 2 ≤ length s) where
+    pub tests-wires : Outside (sheetWires s) wiresMost → sheetTests s rest ≡ refused 17 0
+    unfolding sheetTests test
+    tests-wires (inl l) = rw (le-leb 2 (length s) two, lt-leb 1 (sheetWires s) l)
+    tests-wires (inr l) = rw (le-leb 2 (length s) two, le-leb 1 (sheetWires s) (omega arith), lt-leb (sheetWires s) wiresMost l)
+
+    module _ (wires-least : 1 ≤ sheetWires s) (wires-most : sheetWires s ≤ wiresMost) where
+      pub tests-channels : Outside (sheetChannels s) channelsMost → sheetTests s rest ≡ refused 17 0
+      unfolding sheetTests test
+      tests-channels (inl l) =
+          rw (
+            le-leb 2 (length s) two,
+            le-leb 1 (sheetWires s) wires-least,
+            le-leb (sheetWires s) wiresMost wires-most,
+            lt-leb 1 (sheetChannels s) l,
+          )
+      tests-channels (inr l) =
+          rw (
+            le-leb 2 (length s) two,
+            le-leb 1 (sheetWires s) wires-least,
+            le-leb (sheetWires s) wiresMost wires-most,
+            le-leb 1 (sheetChannels s) (omega arith),
+            lt-leb (sheetChannels s) channelsMost l,
+          )
+
+      module _ (channels-least : 1 ≤ sheetChannels s) (channels-most : sheetChannels s ≤ channelsMost) (end : ℕ) (is : end ≡ endAt (sheetWires s) (sheetChannels s)) where
+        -- what is left are the tests of length and filling
+        counted : sheetTests s rest ≡ test (eqb (length s) (up end 8)) 16 0 (test (eqb (field s end (8 * length s - end)) 0) 18 0 rest)
+        unfolding sheetTests sheetLength fillingOf test
+        counted =
+            rw (
+              is,
+              le-leb 2 (length s) two,
+              le-leb 1 (sheetWires s) wires-least,
+              le-leb (sheetWires s) wiresMost wires-most,
+              le-leb 1 (sheetChannels s) channels-least,
+              le-leb (sheetChannels s) channelsMost channels-most,
+            )
+
+        pub tests-length : length s ≢ up end 8 → sheetTests s rest ≡ refused 16 0
+        unfolding test
+        tests-length ne = counted ∙ rw (ne-eqb (length s) (up end 8) ne)
+
+        pub tests-filling : length s ≡ up end 8 → 1 ≤ field s end (8 * length s - end) → sheetTests s rest ≡ refused 18 0
+        unfolding test
+        tests-filling e l =
+            counted
+            ∙ rw (eq-eqb (length s) (up end 8) e, ne-eqb (field s end (8 * length s - end)) 0 (λ z. omega arith))
+
+        pub tests-pass : length s ≡ up end 8 → field s end (8 * length s - end) ≡ 0 → sheetTests s rest ≡ rest
+        unfolding test
+        tests-pass e z = counted ∙ rw (eq-eqb (length s) (up end 8) e, eq-eqb (field s end (8 * length s - end)) 0 z)
+
+-- ---- the tests as one number
+
+-- the tests end at the refusal with this number, or, where it is 0, go on to what follows
+abbrev pub Fault : List ℕ → ℕ → Type 0
+Fault s number = (rest : Reply) → sheetTests s rest ≡ test (eqb number 0) number 0 rest
+
+-- what is known of a byte string that passes
+pub record Passed (s : List ℕ) : Type 0 where
+  pub goes-on : (rest : Reply) → sheetTests s rest ≡ rest
+  pub two-bytes : 2 ≤ length s
+  pub wires-least : 1 ≤ sheetWires s
+  pub wires-most : sheetWires s ≤ wiresMost
+  pub channels-least : 1 ≤ sheetChannels s
+  pub channels-most : sheetChannels s ≤ channelsMost
+  pub all-there : length s ≡ up (endAt (sheetWires s) (sheetChannels s)) 8
+
+module _ (s : List ℕ) (goes-on : (rest : Reply) → sheetTests s rest ≡ rest) where
+  -- what the tests would else refuse
+  holds : {A : Type 0} {number : ℕ} → Dec A → ((A → ⊥) → sheetTests s (granted []) ≡ refused number 0) → A
+  holds (yes a) h = a
+  holds {number = number} (no n) h =
+      let e : granted [] ≡ refused number 0 = sym (goes-on (granted [])) ∙ h n in
+      let z : _≡_ {A = ℕ} 0 1 = cc in
+      absurd (omega arith)
+
+  passed : Passed s
+  passed =
+      let two : 2 ≤ length s = holds (decLe 2 (length s)) (λ n. tests-short s _ (omega arith)) in
+      let n-least : 1 ≤ sheetWires s = holds (decLe 1 (sheetWires s)) (λ n. tests-wires s _ two (inl (omega arith))) in
+      let n-most : sheetWires s ≤ wiresMost = holds (decLe (sheetWires s) wiresMost) (λ n. tests-wires s _ two (inr (omega arith))) in
+      let m-least : 1 ≤ sheetChannels s
+      = holds (decLe 1 (sheetChannels s)) (λ n. tests-channels s _ two n-least n-most (inl (omega arith))) in
+      let m-most : sheetChannels s ≤ channelsMost
+      = holds (decLe (sheetChannels s) channelsMost) (λ n. tests-channels s _ two n-least n-most (inr (omega arith))) in
+      record {
+        goes-on = goes-on;
+        two-bytes = two;
+        wires-least = n-least;
+        wires-most = n-most;
+        channels-least = m-least;
+        channels-most = m-most;
+        all-there =
+            holds (ℕ-discrete (length s) _) (λ ne. tests-length s _ two n-least n-most m-least m-most _ refl ne);
+      }
+
+module _ (s : List ℕ) (number : ℕ) (fault : Fault s number) where
+  pub fault-none : number ≡ 0 → Passed s
+  unfolding test
+  fault-none e = passed s (λ rest. fault rest ∙ rw (eq-eqb number 0 e))
+
+  fault-some : 1 ≤ number → (rest : Reply) → sheetTests s rest ≡ refused number 0
+  unfolding test
+  fault-some l rest = fault rest ∙ rw (ne-eqb number 0 (λ e. omega arith))
+
+  pub ask-wire-fault : (w : ℕ) → 1 ≤ number → askWire s w ≡ refused number 0
+  unfolding askWire
+  ask-wire-fault w l = fault-some l _
+
+  pub ask-channel-fault : (k : ℕ) → 1 ≤ number → askChannel s k ≡ refused number 0
+  unfolding askChannel
+  ask-channel-fault k l = fault-some l _
+
+-- ---- asking what has passed
+
+module _ (s : List ℕ) (pass : Passed s) where
+  pub ask-wire-none : (w : ℕ) → sheetWires s ≤ w → askWire s w ≡ refused 19 0
+  unfolding askWire test
+  ask-wire-none w l = pass .goes-on _ ∙ rw (le-ltb w (sheetWires s) l)
+
+  pub ask-wire-some : (w at next backlog delay : ℕ) → w < sheetWires s → at ≡ figuresAt w → next ≡ figuresAt w + backlogBits
+      → backlog ≡ field s at backlogBits → delay ≡ field s next delayBits → askWire s w ≡ granted (backlog ∷ delay ∷ [])
+  unfolding askWire test
+  ask-wire-some w at next backlog delay l e f b d = pass .goes-on _ ∙ rw (lt-ltb w (sheetWires s) l, b, d, e, f)
+
+  pub ask-channel-none : (k : ℕ) → sheetChannels s ≤ k → askChannel s k ≡ refused 19 0
+  unfolding askChannel test
+  ask-channel-none k l = pass .goes-on _ ∙ rw (le-ltb k (sheetChannels s) l)
+
+  pub ask-channel-some : (k at end : ℕ) → k < sheetChannels s → at ≡ endAt (sheetWires s) k → end ≡ field s at endBits
+      → askChannel s k ≡ granted (end ∷ [])
+  unfolding askChannel test
+  ask-channel-some k at end l e d = pass .goes-on _ ∙ rw (lt-ltb k (sheetChannels s) l, d, e)

@@ -1,0 +1,57 @@
+-- `sheet::ask_channel` meets its contract.
+-- Assumes nothing.
+use mathlib.Core.Path.{sym}
+use native.Mathlib.Omega.{arith}
+use borrow.Author.Needs.{needs}
+use Rattle.rules.specs.Sheet.{figuresAt, endAt}
+use Rattle.rules.proofs.SheetReplies.{Passed, fault-none, ask-channel-fault, ask-channel-none, ask-channel-some}
+use Rattle.sheet.proofs.ask_channel.Statement.{statement}
+use Rattle.sheet.proofs.ask_channel.Tie as tie
+
+module _ (c : tie.Else1) where
+  abbrev st : tie.Start
+  st = c .before .before .before
+
+  pass : Passed (st .args .sheet .now)
+  pass = fault-none (st .args .sheet .now) (c .before .fault .result) (c .before .fault .ensures) (omega arith)
+
+fault-requires : tie.Need-fault-requires
+fault-requires c κs = search needs
+
+returns : tie.Need-returns
+returns c =
+    let a = c .before .before .before .args in
+    sym (ask-channel-fault (a .sheet .now) (c .before .fault .result) (c .before .fault .ensures) (a .channel) (omega arith))
+
+counts-of-requires : tie.Need-counts-of-requires
+counts-of-requires c κs = omega (arith, pass c)
+
+returns-2 : tie.Need-returns-2
+returns-2 c =
+    let e = c .before .before in
+    sym (ask-channel-none (st e .args .sheet .now) (pass e) (st e .args .channel) (omega arith))
+
+end-at-requires : tie.Need-end-at-requires
+end-at-requires c κs = omega (arith, pass (c .before .before))
+
+field-at-requires : tie.Need-field-at-requires
+unfolding figuresAt endAt
+field-at-requires c κs = omega (arith, pass (c .before .before .before))
+
+returns-3 : tie.Need-returns-3
+unfolding figuresAt endAt
+returns-3 c =
+    let e = c .before .before .before .before in
+    sym (ask-channel-some (st e .args .sheet .now) (pass e) (st e .args .channel) _ _ (omega arith) (omega arith) (c .field-at .ensures))
+
+pub ask-channel-spec : {M : Type 1} → statement M
+ask-channel-spec =
+    tie.close
+    (tie.spec
+    fault-requires
+    returns
+    counts-of-requires
+    returns-2
+    end-at-requires
+    field-at-requires
+    returns-3)

@@ -1,0 +1,67 @@
+-- `sheet::ask_wire` meets its contract.
+-- Assumes nothing.
+use mathlib.Core.Path.{sym}
+use native.Mathlib.Omega.{arith}
+use borrow.Author.Needs.{needs}
+use Rattle.rules.specs.Sheet.{figuresAt, endAt}
+use Rattle.rules.proofs.SheetReplies.{Passed, fault-none, ask-wire-fault, ask-wire-none, ask-wire-some}
+use Rattle.sheet.proofs.ask_wire.Statement.{statement}
+use Rattle.sheet.proofs.ask_wire.Tie as tie
+
+module _ (c : tie.Else1) where
+  abbrev st : tie.Start
+  st = c .before .before .before
+
+  pass : Passed (st .args .sheet .now)
+  pass = fault-none (st .args .sheet .now) (c .before .fault .result) (c .before .fault .ensures) (omega arith)
+
+fault-requires : tie.Need-fault-requires
+fault-requires c κs = search needs
+
+returns : tie.Need-returns
+returns c =
+    let a = c .before .before .before .args in
+    sym (ask-wire-fault (a .sheet .now) (c .before .fault .result) (c .before .fault .ensures) (a .wire) (omega arith))
+
+counts-of-requires : tie.Need-counts-of-requires
+counts-of-requires c κs = omega (arith, pass c)
+
+returns-2 : tie.Need-returns-2
+returns-2 c =
+    let e = c .before .before in
+    sym (ask-wire-none (st e .args .sheet .now) (pass e) (st e .args .wire) (omega arith))
+
+figures-at-requires : tie.Need-figures-at-requires
+figures-at-requires c κs = omega (arith, pass (c .before .before))
+
+field-at-requires : tie.Need-field-at-requires
+unfolding figuresAt endAt
+field-at-requires c κs = omega (arith, pass (c .before .before .before))
+
+add-field-at : tie.Need-add-field-at
+unfolding figuresAt endAt
+add-field-at c = omega (arith, pass (c .before .before .before .before))
+
+field-at-requires-2 : tie.Need-field-at-requires-2
+unfolding figuresAt endAt
+field-at-requires-2 c κs = omega (arith, pass (c .before .before .before .before))
+
+returns-3 : tie.Need-returns-3
+returns-3 c =
+    let e = c .before .before .before .before .before in
+    sym (ask-wire-some (st e .args .sheet .now) (pass e) (st e .args .wire) _ _ _ _ (omega arith) (omega arith) (omega arith)
+    (c .before .field-at .ensures) (c .field-at2 .ensures))
+
+pub ask-wire-spec : {M : Type 1} → statement M
+ask-wire-spec =
+    tie.close
+    (tie.spec
+    fault-requires
+    returns
+    counts-of-requires
+    returns-2
+    figures-at-requires
+    field-at-requires
+    add-field-at
+    field-at-requires-2
+    returns-3)

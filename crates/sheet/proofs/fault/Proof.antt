@@ -1,0 +1,91 @@
+-- `sheet::fault` meets its contract: each return by the law of the test that failed.
+-- Assumes nothing.
+use mathlib.Core.Logic.{inl, inr}
+use native.Mathlib.Omega.{arith}
+use borrow.Author.Needs.{needs}
+use Rattle.rules.specs.Replies.{test}
+use Rattle.rules.specs.Sheet.{figuresAt, endAt}
+use Rattle.rules.proofs.SheetReplies.{tests-short, tests-wires, tests-channels, tests-length, tests-filling, tests-pass}
+use Rattle.sheet.proofs.fault.Statement.{statement}
+use Rattle.sheet.proofs.fault.Tie as tie
+
+returns : tie.Need-returns
+unfolding test
+returns c rest = tests-short _ rest (omega arith)
+
+counts-of-requires : tie.Need-counts-of-requires
+counts-of-requires c κs = search needs
+
+returns-2 : tie.Need-returns-2
+unfolding test
+returns-2 c rest = tests-wires _ rest (omega arith) (inl (omega arith))
+
+returns-3 : tie.Need-returns-3
+unfolding test
+returns-3 c rest = tests-wires _ rest (omega arith) (inr (omega arith))
+
+returns-4 : tie.Need-returns-4
+unfolding test
+returns-4 c rest = tests-channels _ rest (omega arith) (omega arith) (omega arith) (inl (omega arith))
+
+returns-5 : tie.Need-returns-5
+unfolding test
+returns-5 c rest = tests-channels _ rest (omega arith) (omega arith) (omega arith) (inr (omega arith))
+
+end-at-requires : tie.Need-end-at-requires
+end-at-requires c κs = search needs
+
+sub-if6 : tie.Need-sub-if6
+sub-if6 c = search needs
+
+add-if6 : tie.Need-add-if6
+unfolding figuresAt endAt
+add-if6 c = omega arith
+
+returns-6 : tie.Need-returns-6
+unfolding test figuresAt endAt
+returns-6 c rest =
+    tests-length _ rest (omega arith) (omega arith) (omega arith) (omega arith) (omega arith) (c .before .end-at .result) (omega arith)
+    (λ e. omega arith)
+
+mul-field-at : tie.Need-mul-field-at
+unfolding figuresAt endAt
+mul-field-at c = omega arith
+
+sub-field-at : tie.Need-sub-field-at
+sub-field-at c = search needs
+
+field-at-requires : tie.Need-field-at-requires
+field-at-requires c κs = search needs
+
+returns-7 : tie.Need-returns-7
+unfolding test figuresAt endAt
+returns-7 c rest =
+    tests-filling _ rest (omega arith) (omega arith) (omega arith) (omega arith) (omega arith)
+    (c .before .before .before .end-at .result) (omega arith) (omega arith) (omega arith)
+
+returns-8 : tie.Need-returns-8
+unfolding test figuresAt endAt
+returns-8 c rest =
+    tests-pass _ rest (omega arith) (omega arith) (omega arith) (omega arith) (omega arith)
+    (c .before .before .before .end-at .result) (omega arith) (omega arith) (omega arith)
+
+pub fault-spec : {M : Type 1} → statement M
+fault-spec =
+    tie.close
+    (tie.spec
+    returns
+    counts-of-requires
+    returns-2
+    returns-3
+    returns-4
+    returns-5
+    end-at-requires
+    sub-if6
+    add-if6
+    returns-6
+    mul-field-at
+    sub-field-at
+    field-at-requires
+    returns-7
+    returns-8)
