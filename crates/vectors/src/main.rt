@@ -2,9 +2,16 @@
 // line's `->`, which it never reads.
 use libc::STDIN_FILENO;
 use libc::STDOUT_FILENO;
+use rules::AskedChannel;
+use rules::AskedWire;
 use rules::Pricing;
 
 mod text;
+
+const INPUT_MOST: usize = 400_000;
+
+// The longest byte string of a case; the longest table has 2,165.
+const BYTES_MOST: usize = 4_096;
 
 fn put(s: &[u8]) {
     io::write_all(STDOUT_FILENO, s);
@@ -33,9 +40,42 @@ fn price(words: &[u8]) {
     }
 }
 
+// sheet index
+fn wire(words: &[u8]) {
+    let mut space = [0u8; BYTES_MOST];
+    let n = text::bytes(words, &mut space);
+    match sheet::ask_wire(&space[..n], text::number(text::rest(words))) {
+        AskedWire::Figures(backlog, delay) => {
+            put(b"V");
+            put_number(backlog);
+            put_number(delay);
+        }
+        AskedWire::Refused(number, place) => put_refusal(number, place),
+    }
+}
+
+// sheet index
+fn channel(words: &[u8]) {
+    let mut space = [0u8; BYTES_MOST];
+    let n = text::bytes(words, &mut space);
+    match sheet::ask_channel(&space[..n], text::number(text::rest(words))) {
+        AskedChannel::Delay(delay) => {
+            put(b"V");
+            put_number(delay);
+        }
+        AskedChannel::Refused(number, place) => put_refusal(number, place),
+    }
+}
+
 fn case(line: &[u8]) {
+    if 2 * BYTES_MOST < line.len() {
+        put(b"line too long\n");
+        return;
+    }
     let words = text::rest(line);
     match text::kind(line) {
+        b'W' => wire(text::rest(words)),
+        b'C' => channel(text::rest(words)),
         b'P' => price(words),
         _ => put(b"no such case"),
     }
@@ -56,7 +96,7 @@ fn cases(s: &[u8]) {
 }
 
 fn main() {
-    let mut input = [0u8; 400_000];
+    let mut input = [0u8; INPUT_MOST];
     let n = io::read_full(STDIN_FILENO, &mut input);
     if n == input.len() {
         put(b"input too long\n");
