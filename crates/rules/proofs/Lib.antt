@@ -11,3 +11,5 @@ pub mod Tests
 pub mod ReadingLaws
 pub mod JudgementLaws
 pub mod Incident
+pub mod Columns
+pub mod Search

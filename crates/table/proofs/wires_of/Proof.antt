@@ -1,0 +1,221 @@
+-- `table::wires_of` meets its contract. The loop's invariant: the search from the start is the search from wire w, and the
+-- arrays hold the wires below w.
+use mathlib.Core.Path.{_≡_, refl, sym, ap, _∙_}
+use mathlib.Core.List.{List}
+use Prim.Native.Nat.{ℕ, _+_, _-_, _*_, _≤_, _<_}
+use native.Mathlib.Omega.{arith}
+use lib.ListN.{length, getD, set}
+use borrow.Author.Needs.{needs}
+use borrow.Author.Tests.{not-true, not-false, leb-true, leb-false}
+use Rattle.rules.specs.declared.Reading.{Reading}
+use Rattle.rules.specs.declared.Reading.the-variants as answer
+use Rattle.rules.specs.Numbers.{rates, wireBits, wiresMost}
+use Rattle.rules.specs.Table.{wireAt, codeOf, rateOf, propOf, roomOf}
+use Rattle.rules.specs.Reading.{wireTests}
+use Rattle.rules.specs.Decoded.{column}
+use Rattle.rules.proofs.Columns.{column-none, column-set, length-column}
+use Rattle.rules.proofs.Search.{FromHere, from-start, from-next, from-stop, from-end, wire-1, wire-5, wire-passes, no-rate, some-rate}
+use Rattle.table.proofs.Answers.{passage}
+use Rattle.table.proofs.wires_of.Statement.{statement}
+use Rattle.table.proofs.wires_of.Tie as tie
+
+record Here (s : List ℕ) (n : ℕ) (found : Reading) (rate prop room : List ℕ) (w : ℕ) : Type 0 where
+  pub most : w ≤ n
+  pub none : found ≡ answer.Read
+  pub search : FromHere (wireTests s) n w
+  pub rates : rate ≡ column wiresMost w (rateOf s)
+  pub props : prop ≡ column wiresMost w (propOf s)
+  pub rooms : room ≡ column wiresMost w (roomOf s)
+
+abbrev Inv-loop : tie.InvT-loop
+Inv-loop s n found₀ rate₀ prop₀ room₀ w₀ found rate prop room w = Here s n found rate prop room w
+
+abbrev μ-loop : tie.MeasureT-loop
+μ-loop s n found₀ rate₀ prop₀ room₀ w₀ found rate prop room w = n - w
+
+loop-holds : tie.Need-loop-holds Inv-loop μ-loop
+loop-holds c =
+    let s = c .before .args .s .now in
+    record {
+      most = omega arith;
+      none = refl;
+      search = from-start (wireTests s) (c .before .args .n);
+      rates = column-none wiresMost (rateOf s);
+      props = column-none wiresMost (propOf s);
+      rooms = column-none wiresMost (roomOf s);
+    }
+
+mul-at : tie.Need-mul-at Inv-loop μ-loop
+mul-at c = omega arith
+
+add-at : tie.Need-add-at Inv-loop μ-loop
+add-at c = omega arith
+
+holds-requires : tie.Need-holds-requires Inv-loop μ-loop
+holds-requires c κs = search needs
+
+module _ (c : tie.In-loop Inv-loop μ-loop) where
+  abbrev s : List ℕ
+  s = c .before .before .before .args .s .now
+
+  abbrev n : ℕ
+  n = c .before .before .before .args .n
+
+  abbrev w : ℕ
+  w = c .before .loop .w
+
+inside : (c : tie.Else1 Inv-loop μ-loop) → wireAt (w (c .before .before)) + wireBits ≤ 8 * length (s (c .before .before))
+unfolding wireAt
+inside c = leb-true _ _ (sym (c .before .holds .ensures) ∙ not-false (c .before .holds .result) (c .if1 .left))
+
+field-at-requires : tie.Need-field-at-requires Inv-loop μ-loop
+unfolding wireAt
+field-at-requires c κs = omega (arith, inside c)
+
+rate-requires : tie.Need-rate-requires Inv-loop μ-loop
+rate-requires c κs = search needs
+
+module _ (c : tie.After-rate Inv-loop μ-loop) where
+  abbrev top : tie.In-loop Inv-loop μ-loop
+  top = c .before .before .before .before
+
+  code : c .before .field-at .result ≡ codeOf (s top) (w top)
+  unfolding codeOf wireAt
+  code = c .before .field-at .ensures
+
+  coded : c .rate .result ≡ getD rates (codeOf (s top) (w top)) 0
+  coded = c .rate .ensures ∙ ap (λ (k : ℕ). getD rates k 0) code
+
+  bytes : c .rate .result ≡ rateOf (s top) (w top)
+  unfolding rateOf
+  bytes = coded
+
+mul-rate : tie.Need-mul-rate Inv-loop μ-loop
+mul-rate c = omega arith
+
+array-write-rate : tie.Need-array-write-rate Inv-loop μ-loop
+array-write-rate c = omega arith
+
+add-field-at : tie.Need-add-field-at Inv-loop μ-loop
+add-field-at c = omega arith
+
+field-at-requires-2 : tie.Need-field-at-requires-2 Inv-loop μ-loop
+unfolding wireAt
+field-at-requires-2 c κs = omega (arith, inside (c .before .before .before))
+
+mul-prop : tie.Need-mul-prop Inv-loop μ-loop
+mul-prop c = omega arith
+
+array-write-prop : tie.Need-array-write-prop Inv-loop μ-loop
+array-write-prop c = omega arith
+
+add-field-at-2 : tie.Need-add-field-at-2 Inv-loop μ-loop
+add-field-at-2 c = omega arith
+
+add-field-at-3 : tie.Need-add-field-at-3 Inv-loop μ-loop
+add-field-at-3 c = omega arith
+
+field-at-requires-3 : tie.Need-field-at-requires-3 Inv-loop μ-loop
+unfolding wireAt
+field-at-requires-3 c κs = omega (arith, inside (c .before .before .before .before))
+
+mul-room : tie.Need-mul-room Inv-loop μ-loop
+mul-room c = omega arith
+
+array-write-room : tie.Need-array-write-room Inv-loop μ-loop
+array-write-room c = omega arith
+
+add-w : tie.Need-add-w Inv-loop μ-loop
+add-w c = omega arith
+
+loop-less : tie.Need-loop-less Inv-loop μ-loop
+loop-less c = omega arith
+
+module _ (c : tie.After-field-at3 Inv-loop μ-loop) where
+  abbrev turn : tie.In-loop Inv-loop μ-loop
+  turn = top (c .before .before .before)
+
+  some : codeOf (s turn) (w turn) < length rates
+  some = some-rate (codeOf (s turn) (w turn)) (λ e. c .before .before .if2 .left (coded (c .before .before .before) ∙ e))
+
+  prop : c .before .field-at2 .result ≡ propOf (s turn) (w turn)
+  unfolding propOf wireAt
+  prop = c .before .field-at2 .ensures
+
+  room : c .field-at3 .result ≡ roomOf (s turn) (w turn)
+  unfolding roomOf wireAt
+  room = c .field-at3 .ensures
+
+loop-again : tie.Need-loop-again Inv-loop μ-loop
+loop-again c =
+    let i = c .before .before .before .before .before .before .before in
+    let r = c .before .before .before in
+    let here = i .before .loop .inv in
+    record {
+      most = omega arith;
+      none = here .none;
+      search = from-next (wireTests (s i)) (n i) (w i) (omega arith) (here .search) (wire-passes (s i) (w i) (inside (r .before .before)) (some c));
+      rates = ap (λ (l : List ℕ). set l (w i) (r .rate .result)) (here .rates) ∙ column-set wiresMost (rateOf (s i)) (w i) _ (omega arith) (bytes r);
+      props = ap (λ (l : List ℕ). set l (w i) (c .before .field-at2 .result)) (here .props) ∙ column-set wiresMost (propOf (s i)) (w i) _ (omega arith) (prop c);
+      rooms = ap (λ (l : List ℕ). set l (w i) (c .field-at3 .result)) (here .rooms) ∙ column-set wiresMost (roomOf (s i)) (w i) _ (omega arith) (room c);
+    }
+
+returns : tie.Need-returns Inv-loop μ-loop
+returns c =
+    let st = c .before .before .before in
+    let here = c .before .loop .inv in
+    let e : c .before .loop .w ≡ st .args .n = omega arith in
+    passage _ _ (here .none) (from-end (wireTests (st .args .s .now)) (st .args .n) (c .before .loop .w) (omega arith) (here .search))
+    (record {
+      rate = here .rates ∙ ap (λ (k : ℕ). column wiresMost k (rateOf (st .args .s .now))) e;
+      prop = here .props ∙ ap (λ (k : ℕ). column wiresMost k (propOf (st .args .s .now))) e;
+      room = here .rooms ∙ ap (λ (k : ℕ). column wiresMost k (roomOf (st .args .s .now))) e;
+    })
+
+past : (c : tie.Then1 Inv-loop μ-loop) → 8 * length (s (c .before .before)) < wireAt (w (c .before .before)) + wireBits
+unfolding wireAt
+past c = leb-false _ _ (sym (c .before .holds .ensures) ∙ not-true (c .before .holds .result) (c .if1 .taken))
+
+returns-2 : tie.Need-returns-2 Inv-loop μ-loop
+returns-2 c =
+    let i = c .before .before in
+    (from-stop (wireTests (s i)) (n i) (w i) (omega arith) (i .before .loop .inv .search) (wire-1 (s i) (w i) (past c)), tt)
+
+returns-3 : tie.Need-returns-3 Inv-loop μ-loop
+returns-3 c =
+    let r = c .before in
+    let i = top r in (
+      from-stop (wireTests (s i)) (n i) (w i) (omega arith) (i .before .loop .inv .search)
+          (wire-5 (s i) (w i) (inside (r .before .before)) (no-rate (codeOf (s i) (w i)) (sym (coded r) ∙ c .if2 .taken))),
+      tt,
+    )
+
+pub wires-of-spec : {M : Type 1} → statement M
+wires-of-spec =
+    tie.close
+    (tie.spec
+    Inv-loop
+    μ-loop
+    loop-holds
+    mul-at
+    add-at
+    holds-requires
+    field-at-requires
+    rate-requires
+    mul-rate
+    array-write-rate
+    add-field-at
+    field-at-requires-2
+    mul-prop
+    array-write-prop
+    add-field-at-2
+    add-field-at-3
+    field-at-requires-3
+    mul-room
+    array-write-room
+    add-w
+    loop-less
+    loop-again
+    returns
+    returns-2
+    returns-3)
