@@ -5,6 +5,7 @@ use libc::STDOUT_FILENO;
 use rules::AskedChannel;
 use rules::AskedWire;
 use rules::Pricing;
+use rules::Reading;
 
 mod text;
 
@@ -37,6 +38,18 @@ fn price(words: &[u8]) {
             put_number(bytes);
         }
         Pricing::Refused(number, place) => put_refusal(number, place),
+    }
+}
+
+// table
+fn read(words: &[u8]) {
+    let mut space = [0u8; BYTES_MOST];
+    let n = text::bytes(words, &mut space);
+    let got = table::read(&space[..n]);
+    let answer = got.answer;
+    match answer {
+        Reading::Read => put(b"read"),
+        Reading::Refused(number, place) => put_refusal(number, place),
     }
 }
 
@@ -74,6 +87,7 @@ fn case(line: &[u8]) {
     }
     let words = text::rest(line);
     match text::kind(line) {
+        b'J' => read(text::rest(words)),
         b'W' => wire(text::rest(words)),
         b'C' => channel(text::rest(words)),
         b'P' => price(words),
