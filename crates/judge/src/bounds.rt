@@ -25,10 +25,10 @@ const FILED_MOST: usize = Table::WIRES_MOST * Table::CHANNELS_MOST;
 
 // What the bounds leave: the answer, of each wire its backlog and delay, of each channel its end-to-end delay.
 pub(crate) struct Worked {
-    answer: Reading,
-    backlog: [u64; Table::WIRES_MOST],
-    delay: [u64; Table::WIRES_MOST],
-    end: [u64; Table::CHANNELS_MOST],
+    pub(crate) answer: Reading,
+    pub(crate) backlog: [u64; Table::WIRES_MOST],
+    pub(crate) delay: [u64; Table::WIRES_MOST],
+    pub(crate) end: [u64; Table::CHANNELS_MOST],
 }
 
 fn wide(x: u8) -> usize
