@@ -4,3 +4,6 @@ pub mod Told
 pub mod Walking
 pub mod Limits
 pub mod Putting
+pub mod Judged
+pub mod OneReply
+pub mod Settled
