@@ -1,6 +1,6 @@
 -- What the fields that are put leave: the head, and a turn of each loop.
 -- Assumes nothing.
-use mathlib.Core.Path.{_≡_, refl, sym, ap, _∙_}
+use mathlib.Core.Path.{_≡_, refl, ap, _∙_}
 use mathlib.Core.List.{List, _++_}
 use Prim.Native.Nat.{ℕ, zero, suc, _+_, _-_, _*_, _^_, _≤_, _<_}
 use native.Mathlib.Nat.{sub-zero, zero-sub, suc-sub-suc}
@@ -8,13 +8,13 @@ use native.Mathlib.Numerals.{add-one}
 use native.Mathlib.Omega.{arith}
 use lib.ListN.{length, take, drop, replicate, length-replicate}
 use lib.Seq.{length-take-le}
-use Rattle.bits.specs.Field.{putField, wroteField}
+use Rattle.bits.specs.Field.{putField, widest, wroteField}
 use Rattle.bits.proofs.Laws.{length-putField, wroteField-put}
 use Rattle.rules.specs.Numbers.{wiresBits, channelsBits, backlogBits, delayBits, endBits}
 use Rattle.rules.specs.Sheet.{figuresAt, endAt, sheetLength, withHead, withWires, withChannels, sheetOf}
 
 -- two fields, the second where the first ends
-two-put : (s : List ℕ) (at v w u v' w' : ℕ) → u ≡ at + w → w ≤ 29 → w' ≤ 29 → u + w' ≤ 8 * length s → v < 2 ^ w → v' < 2 ^ w'
+two-put : (s : List ℕ) (at v w u v' w' : ℕ) → u ≡ at + w → w ≤ widest → w' ≤ widest → u + w' ≤ 8 * length s → v < 2 ^ w → v' < 2 ^ w'
     → wroteField (wroteField s at w v) u w' v' ≡ putField (putField s at w v) u w' v'
 two-put s at v w u v' w' e a b h l l' =
     ap (λ (t : List ℕ). wroteField t u w' v') (wroteField-put s at w a (omega arith) v l)

@@ -22,6 +22,14 @@ fn pack(number: u64, place: u64, value: u64) -> u64
     number * NUMBER + place * PLACE + value
 }
 
+// What is granted of a wire.
+fn pack_figures(backlog: u64, delay: u64) -> u64
+    requires { ⌜ (backlog < 2 ^ 24) × (delay < 2 ^ 24) ⌝ }
+    ensures { λ r. ⌜ r ≡ packing 0 0 (backlog * 2 ^ 24 + delay) ⌝ }
+{
+    pack(0, 0, backlog * BACKLOG + delay)
+}
+
 #[no_mangle]
 pub extern "C" fn magsurinda_price(framing: u64, payload: u64) -> u64
     ensures { λ r. ⌜ r ≡ packed only (askPrice framing payload) ⌝ }
@@ -42,13 +50,6 @@ pub extern "C" fn magsurinda_ask_wire(sheet: &[u8], wire: u64) -> u64
         AskedWire::Figures(backlog, delay) => pack_figures(backlog, delay),
         AskedWire::Refused(number, place) => pack(number, place, 0),
     }
-}
-
-fn pack_figures(backlog: u64, delay: u64) -> u64
-    requires { ⌜ (backlog < 2 ^ 24) × (delay < 2 ^ 24) ⌝ }
-    ensures { λ r. ⌜ r ≡ packing 0 0 (backlog * 2 ^ 24 + delay) ⌝ }
-{
-    pack(0, 0, backlog * BACKLOG + delay)
 }
 
 #[no_mangle]

@@ -1,6 +1,5 @@
 -- Every reply is of small numbers: a refusal's number is 1 to 20 and its place below 128, and what is granted fits.
 -- Assumes nothing.
-use mathlib.Core.Path.{_≡_}
 use mathlib.Core.Bool.{Bool, true, false}
 use mathlib.Core.List.{List, [], _∷_}
 use Prim.Native.Nat.{ℕ, zero, suc, _+_, _^_, _≤_, _<_}
@@ -15,7 +14,7 @@ use Rattle.rules.specs.Price.{askPrice}
 use Rattle.rules.specs.Sheet.{sheetTests, askWire, askChannel}
 use Rattle.rules.specs.Judgement.{loadTest, roomTest, deadlineTest, boundsTests, judge}
 use Rattle.rules.proofs.Tests.{Gate, through, stops, lt-gate, between-gate}
-use Rattle.rules.proofs.ReadingLaws.{HeadPasses, head-gate}
+use Rattle.rules.proofs.ReadingLaws.{head-gate}
 use Rattle.rules.proofs.Prices.{priceMost, price-most}
 use Rattle.rules.proofs.SheetLaws.{sheet-longest}
 

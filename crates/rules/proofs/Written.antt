@@ -2,7 +2,7 @@
 -- Assumes nothing.
 use mathlib.Core.Path.{_≡_, refl, ap, _∙_}
 use mathlib.Core.List.{List, _++_}
-use Prim.Native.Nat.{ℕ, zero, suc, _-_, _≤_, _<_}
+use Prim.Native.Nat.{ℕ, zero, suc, _-_, _<_}
 use native.Mathlib.Omega.{arith}
 use lib.ListN.{getD, replicate}
 use Rattle.rules.specs.Numbers.{wiresMost, channelsMost}
@@ -10,7 +10,7 @@ use Rattle.rules.specs.Replies.{granted}
 use Rattle.rules.specs.Table.{View}
 use Rattle.rules.specs.Decoded.{column}
 use Rattle.rules.specs.Bounds.{backlog, delay, endToEnd}
-use Rattle.rules.specs.Sheet.{sheetLength, withWires, withChannels, sheetOf}
+use Rattle.rules.specs.Sheet.{withWires, withChannels, sheetOf}
 use Rattle.rules.specs.Judgement.{lengthOf, sheet, leaves}
 use Rattle.rules.proofs.Columns.{column-at}
 use Rattle.rules.proofs.SheetLaws.{Fits}
