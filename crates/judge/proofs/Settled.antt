@@ -10,7 +10,7 @@ use denote.Triple.Clauses.{AtExit}
 use borrow.Fn.World.{ArgsD, ResD}
 use borrow.Fn.Kinds.{endedOf}
 use Rattle.rules.specs.declared.Judging.the-variants as judging
-use Rattle.rules.specs.Replies.{granted, refused}
+use Rattle.rules.specs.Replies.{judgingReply}
 use Rattle.rules.specs.Table.{viewOf}
 use Rattle.rules.specs.Machine.{Releases, Keeps, Run}
 use Rattle.rules.specs.Promise.{Promised}
@@ -29,4 +29,5 @@ module _ (κs : Lfts 2) (a : ArgsD judge.signature κs) (r : ResD judge.signatur
   pub promise-kept :
       (len : ℕ) → r ≡ judging.Accepted len → (released : Releases) → Keeps (viewOf table) released →
       (run : Run (viewOf table) released) → Promised table (take len left) released run
-  promise-kept len is released keeps run = ?pk
+  promise-kept len is released keeps run =
+      rw (met .1) (promise table _ len (sym (met .0) ∙ ap judgingReply is) released keeps run)

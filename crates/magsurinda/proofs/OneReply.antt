@@ -1,9 +1,13 @@
 -- No two replies that differ meet a function's contract on the same arguments.
 use mathlib.Core.Path.{_≡_, sym, _∙_}
 use contract.Lifetimes.{Lfts}
+use denote.Ref.{now}
 use denote.Triple.Clauses.{AtExit}
 use borrow.Fn.World.{ArgsD, ResD}
 use borrow.Fn.Kinds.{endedOf}
+use Rattle.magsurinda.proofs.magsurinda_judge as judge
+use Rattle.magsurinda.proofs.magsurinda_judge.Kinds as judge-kinds
+use Rattle.magsurinda.proofs.magsurinda_judge.Reads as judge-reads
 use Rattle.magsurinda.proofs.magsurinda_price as price
 use Rattle.magsurinda.proofs.magsurinda_price.Kinds as price-kinds
 use Rattle.magsurinda.proofs.magsurinda_price.Reads as price-reads
@@ -29,3 +33,8 @@ module _ (κs : Lfts 1) where
       (a : ArgsD ask-channel.signature κs) (r r' : ResD ask-channel.signature κs) (e e' : AtExit (endedOf 1 ask-channel-kinds.ps ask-channel-kinds.r) κs) →
       ask-channel-reads.Post κs a r e → ask-channel-reads.Post κs a r' e' → r ≡ r'
   ask-channel-one a r r' e e' p q = p ∙ sym q
+
+pub judge-one :
+    (κs : Lfts 2) (a : ArgsD judge.signature κs) (r r' : ResD judge.signature κs) (e e' : AtExit (endedOf 2 judge-kinds.ps judge-kinds.r) κs) →
+    judge-reads.Post κs a r e → judge-reads.Post κs a r' e' → (r ≡ r') × (now (e .1 .0) ≡ now (e' .1 .0))
+judge-one κs a r r' e e' p q = (p .0 ∙ sym (q .0), p .1 ∙ sym (q .1))

@@ -1,11 +1,14 @@
 // The C face: each reply in 64 bits.
 ghost use mathlib.Core.Path.{_≡_};
 ghost use Prim.Native.Nat.{_+_, _*_, _^_, _<_};
+ghost use lib.ListN.{length};
+ghost use Rattle.rules.specs.Judgement.{judge as judgeOf, buffer};
 ghost use Rattle.rules.specs.Price.{askPrice};
 ghost use Rattle.rules.specs.Sheet.{askWire, askChannel};
 ghost use Rattle.magsurinda.specs.Packed.{packing, packed, only, figures};
 use rules::AskedChannel;
 use rules::AskedWire;
+use rules::Judging;
 use rules::Pricing;
 
 // One of a refusal's number, of its place, and of a wire's backlog.
@@ -28,6 +31,18 @@ fn pack_figures(backlog: u64, delay: u64) -> u64
     ensures { λ r. ⌜ r ≡ packing 0 0 (backlog * 2 ^ 24 + delay) ⌝ }
 {
     pack(0, 0, backlog * BACKLOG + delay)
+}
+
+#[no_mangle]
+pub extern "C" fn magsurinda_judge(table: &[u8], sheet: &mut [u8]) -> u64
+    ensures { λ r. ⌜ r ≡ packed only (judgeOf (now (table .entry)) (length (now (sheet .entry)))) ⌝ }
+    ensures { λ _. ⌜ now (sheet .exit) ≡ buffer (now (table .entry)) (length (now (sheet .entry))) ⌝ }
+{
+    let answer = judge::judge(table, sheet);
+    match answer {
+        Judging::Accepted(length) => pack(0, 0, length),
+        Judging::Refused(number, place) => pack(number, place, 0),
+    }
 }
 
 #[no_mangle]

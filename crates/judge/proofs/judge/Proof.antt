@@ -158,7 +158,7 @@ write-sheet-requires c κs =
     let l = c .before .before .before .before .before .before .before .before in
     let f = figures l in (
       subst₂ (λ (n m : ℕ). Fits n m (entries (f .backlog)) (entries (f .delay)) (entries (f .end))) (sym (counts (e l) .wires)) (sym (counts (e l) .channels))
-      (fits-held (v (at (e l))) (fits (e l)) (f .backlog) (f .delay) (f .end) (holds l)),
+          (fits-held (v (at (e l))) (fits (e l)) (f .backlog) (f .delay) (f .end) (holds l)),
       omega (arith, l .sheet-length .ensures),
     )
 
