@@ -4,8 +4,8 @@ use libc::STDIN_FILENO;
 use libc::STDOUT_FILENO;
 use rules::AskedChannel;
 use rules::AskedWire;
+use rules::Judging;
 use rules::Pricing;
-use rules::Reading;
 
 mod text;
 
@@ -41,16 +41,47 @@ fn price(words: &[u8]) {
     }
 }
 
-// table
-fn read(words: &[u8]) {
+fn wide(b: u8) -> u64 {
+    b as u64
+}
+
+// A byte string in hexadecimal, or "-" where it is empty.
+fn put_bytes(s: &[u8]) {
+    if s.len() == 0 {
+        put(b"-");
+    }
+    let mut i = 0;
+    while i < s.len() {
+        io::print_hex(STDOUT_FILENO, wide(s[i]), 2);
+        i += 1;
+    }
+}
+
+// The reply, and the lent buffer afterwards.
+fn put_judging(table: &[u8], lent: &mut [u8]) {
+    match judge::judge(table, lent) {
+        Judging::Accepted(length) => {
+            put(b"A");
+            put_number(length);
+        }
+        Judging::Refused(number, place) => put_refusal(number, place),
+    }
+    put(b" ");
+    put_bytes(lent);
+}
+
+// table lent. The buffer is lent full of 85, which is neither a refusal's filling nor zeros.
+fn judged(words: &[u8]) {
     let mut space = [0u8; BYTES_MOST];
     let n = text::bytes(words, &mut space);
-    let got = table::read(&space[..n]);
-    let answer = got.answer;
-    match answer {
-        Reading::Read => put(b"read"),
-        Reading::Refused(number, place) => put_refusal(number, place),
+    let mut buffer = [85u8; BYTES_MOST];
+    let lent = text::number(text::rest(words));
+    if (BYTES_MOST as u64) < lent {
+        put(b"lent too long");
+        return;
     }
+    let end = io::count(lent as isize, &buffer);
+    put_judging(&space[..n], &mut buffer[..end]);
 }
 
 // sheet index
@@ -87,7 +118,7 @@ fn case(line: &[u8]) {
     }
     let words = text::rest(line);
     match text::kind(line) {
-        b'J' => read(text::rest(words)),
+        b'J' => judged(text::rest(words)),
         b'W' => wire(text::rest(words)),
         b'C' => channel(text::rest(words)),
         b'P' => price(words),
