@@ -1,41 +1,122 @@
 //! A second opinion on the library: `opinion COMMAND`, see `USAGE`.
 
 mod baseline;
+mod broken;
+mod compare;
 mod ffi;
+mod generate;
 mod hex;
 mod opinion;
 mod rng;
 mod vectors;
 
+use ffi::Face;
 use std::process::exit;
 
 const USAGE: &str = "\
-opinion vectors FILE                            the outside vectors
+opinion vectors FILE     the outside vectors, answered by the second opinion and by the face
+opinion compare [OPTIONS]  the face compared with the second opinion on generated tables
+    --seed S             another seed; --tables N   more tables
+    --reduced N          only N tables, with no demand on their counts
+    --baseline           compare the baseline in the place of the library
+    --break N            compare a face with fault N: has to exit 1
+opinion faults           the faults that --break knows, one to a line
+Exit status: 0 agreed; 1 a disagreement, printed; 2 bad usage; 4 too few of a kind were compared.
 ";
+
+const SEED: u64 = 20_261_115;
 
 fn main() {
     let words: Vec<String> = std::env::args().skip(1).collect();
-    let face = ffi::built_for();
-    match words.iter().map(String::as_str).collect::<Vec<_>>()[..] {
-        ["vectors", file] => run_vectors(file, face.as_ref()),
-        _ => {
-            eprint!("{USAGE}");
-            exit(2)
-        }
+    let words: Vec<&str> = words.iter().map(String::as_str).collect();
+    match words[..] {
+        ["vectors", file] => run_vectors(file),
+        ["compare", ref rest @ ..] => run_compare(rest),
+        ["faults"] => broken::FAULTS.iter().enumerate().for_each(|(at, what)| println!("{} {what}", at + 1)),
+        _ => usage(),
     }
 }
 
-fn run_vectors(file: &str, face: &dyn ffi::Face) {
+fn usage() -> ! {
+    eprint!("{USAGE}");
+    exit(2)
+}
+
+fn fail(status: i32, why: &str) -> ! {
+    println!("{why}");
+    exit(status)
+}
+
+/// The options given, each with its number.
+struct Options<'a>(&'a [&'a str]);
+
+impl Options<'_> {
+    fn number(&self, name: &str) -> Option<u64> {
+        let at = self.0.iter().position(|&word| word == name)?;
+        match self.0.get(at + 1).map(|word| word.parse()) {
+            Some(Ok(number)) => Some(number),
+            _ => usage(),
+        }
+    }
+
+    fn has(&self, name: &str) -> bool {
+        self.0.contains(&name)
+    }
+
+    /// Refuses words that are neither a name of the list nor its number.
+    fn only(&self, numbered: &[&str], plain: &[&str]) {
+        let mut words = self.0.iter();
+        while let Some(word) = words.next() {
+            if numbered.contains(word) {
+                words.next();
+            } else if !plain.contains(word) {
+                usage();
+            }
+        }
+    }
+
+    fn seed(&self) -> u64 {
+        self.number("--seed").unwrap_or(SEED)
+    }
+}
+
+fn run_vectors(file: &str) {
+    let face = ffi::built_for();
     let text = std::fs::read_to_string(file).unwrap_or_else(|why| {
         eprintln!("opinion: {file}: {why}");
         exit(2)
     });
-    let result = vectors::document_cases(face).and_then(|()| vectors::run(&text, face));
+    let result = vectors::document_cases(face.as_ref()).and_then(|()| vectors::run(&text, face.as_ref()));
     match result {
         Ok(kinds) => println!("vectors: {kinds:?} agree: the second opinion and {}", face.name()),
-        Err(why) => {
-            println!("vectors: {why}");
-            exit(1)
+        Err(why) => fail(1, &format!("vectors: {why}")),
+    }
+}
+
+fn run_compare(words: &[&str]) {
+    let options = Options(words);
+    options.only(&["--seed", "--tables", "--reduced", "--break"], &["--baseline"]);
+    let mut face: Box<dyn Face> = if options.has("--baseline") { Box::new(ffi::Baseline) } else { ffi::built_for() };
+    if let Some(fault) = options.number("--break") {
+        let Some(broken) = broken::Broken::new(face, fault as usize) else { usage() };
+        face = Box::new(broken);
+    }
+    let mut comparison = compare::Comparison::new(face.as_ref(), options.seed());
+    let reduced = options.number("--reduced");
+    let outcome = match reduced {
+        Some(tables) => comparison.run_reduced(tables),
+        None => comparison.run(options.number("--tables").unwrap_or(0).max(compare::TABLES)),
+    };
+    println!("seed {}", options.seed());
+    comparison.print();
+    if let Err(why) = outcome {
+        fail(1, &format!("DISAGREEMENT: {why}"));
+    }
+    if reduced.is_none() {
+        let shortfalls = comparison.shortfalls();
+        if !shortfalls.is_empty() {
+            fail(4, &format!("too few compared: {}", shortfalls.join("; ")));
         }
     }
+    println!("compare: all agree");
 }

@@ -366,7 +366,8 @@ fn board_accepted(accepted: &Accepted) -> String {
 
 // ---- the sheet ----
 
-fn write_sheet(figures: &Figures) -> Vec<u8> {
+/// The sheet of a table's figures.
+pub fn write_sheet(figures: &Figures) -> Vec<u8> {
     let mut list = Vec::new();
     put(&mut list, 7, figures.backlogs.len() as u128);
     put(&mut list, 8, figures.ends.len() as u128);
