@@ -319,6 +319,78 @@ pub fn full(rng: &mut Rng) -> Draft {
     draft
 }
 
+// ---- tables for the slot machine ----
+
+/// Small tables whose hyperperiod the machine can run through.
+pub const FOR_MACHINE: Shape = Shape {
+    wires: (1, 10),
+    channels: (1, 8),
+    hops: (1, 8),
+    most_payload: 6_000,
+    least_hyperperiod: 4,
+    most_hyperperiod: 30_000,
+};
+
+/// Long routes: every channel passes eight wires.
+pub const EIGHT_HOPS: Shape = Shape { wires: (8, 10), channels: (2, 6), hops: (8, 8), ..FOR_MACHINE };
+
+/// Tables in which a figure with jitter can be reached exactly. Each of the first wires, of rate
+/// 100, holds a message of 84 bytes back for exactly one period, 1 to 16 bytes of it going in the
+/// slot in which the next one comes and goes whole; all of them then meet on one later wire.
+pub fn meeting(rng: &mut Rng) -> Draft {
+    let hyperperiod = Hyperperiod::of(rng.pick(&[120, 240, 360, 840, 2_520]));
+    let count = rng.range(1, 4);
+    let further = rng.range(0, 6);
+    let mut draft = Draft {
+        hyperperiod: hyperperiod.slots,
+        wire_count: 0,
+        channel_count: 0,
+        wires: (0..count + 1 + further).map(|_| short_wire(rng)).collect(),
+        channels: Vec::new(),
+    };
+    for first in 0..count {
+        let fits = |d: &&u64| (1 + count..=40).contains(*d) && 4 * **d <= hyperperiod.slots;
+        let periods: Vec<u64> = hyperperiod.divisors.iter().filter(fits).copied().collect();
+        let period = rng.pick(&periods);
+        draft.wires[first as usize].code = 2;
+        let mut route = vec![first, count];
+        route.extend((count + 1..count + 1 + further).filter(|_| rng.chance(1, 2)));
+        draft.channels.push(plain_channel(1, period, route));
+        let held_back = 100 * period + rng.range(1, 16) - 84;
+        for payload in fillers(rng, held_back) {
+            draft.channels.push(plain_channel(payload, hyperperiod.slots, vec![first]));
+        }
+    }
+    while let Some(wire) = draft.overfull() {
+        draft.wires[wire].code += 1;
+    }
+    rng.shuffle(&mut draft.channels);
+    draft.count();
+    draft
+}
+
+fn short_wire(rng: &mut Rng) -> DraftWire {
+    DraftWire { code: rng.below(3), propagation: rng.range(0, 9), room: MOST_ROOM }
+}
+
+pub fn plain_channel(payload: u64, period: u64, route: Vec<u64>) -> DraftChannel {
+    DraftChannel { framing: 0, payload, period, deadline: MOST_DEADLINE, hops: route.len() as u64, route }
+}
+
+/// Payloads whose plain prices sum to `bytes`: one message, of several frames where need be, or two.
+fn fillers(rng: &mut Rng, bytes: u64) -> Vec<u64> {
+    if bytes >= 200 && rng.chance(1, 2) {
+        let part = rng.range(84, (bytes - 84).min(1_538));
+        return [fillers(rng, part), fillers(rng, bytes - part)].concat();
+    }
+    let full = bytes / 1_538;
+    match bytes % 1_538 {
+        0 => vec![1_492 * full],
+        rest if rest >= 84 => vec![1_492 * full + rest - 46],
+        rest => vec![1_492 * (full - 1) + (1_538 + rest - 84) - 46, 1],
+    }
+}
+
 // ---- edges of a sound table ----
 
 /// The tables around a tightened one: exactly met, one off each way at one wire or channel.

@@ -1,13 +1,18 @@
 //! A second opinion on the library: `opinion COMMAND`, see `USAGE`.
 
+mod adversary;
 mod baseline;
+mod bench;
 mod broken;
 mod compare;
+mod drive;
 mod ffi;
 mod generate;
 mod hex;
+mod machine;
 mod opinion;
 mod rng;
+mod scripted;
 mod vectors;
 
 use ffi::Face;
@@ -20,8 +25,14 @@ opinion compare [OPTIONS]  the face compared with the second opinion on generate
     --reduced N          only N tables, with no demand on their counts
     --baseline           compare the baseline in the place of the library
     --break N            compare a face with fault N: has to exit 1
+opinion machine [--seed S] [--tables N]
+                         the slot machine driven by adversaries on tables with nothing to spare
+opinion bench [--seed S] [--repetitions N]
+                         times of the face and of the baseline, and their ratio at three sizes
+opinion scripted         four small runs of the slot machine, slot by slot
 opinion faults           the faults that --break knows, one to a line
-Exit status: 0 agreed; 1 a disagreement, printed; 2 bad usage; 4 too few of a kind were compared.
+Exit status: 0 agreed; 1 a disagreement or a figure exceeded, printed; 2 bad usage; 4 too few of a
+kind were compared, or wrong figures were left standing.
 ";
 
 const SEED: u64 = 20_261_115;
@@ -32,6 +43,9 @@ fn main() {
     match words[..] {
         ["vectors", file] => run_vectors(file),
         ["compare", ref rest @ ..] => run_compare(rest),
+        ["machine", ref rest @ ..] => run_machine(rest),
+        ["bench", ref rest @ ..] => run_bench(rest),
+        ["scripted"] => print!("{}", scripted::text()),
         ["faults"] => broken::FAULTS.iter().enumerate().for_each(|(at, what)| println!("{} {what}", at + 1)),
         _ => usage(),
     }
@@ -119,4 +133,28 @@ fn run_compare(words: &[&str]) {
         }
     }
     println!("compare: all agree");
+}
+
+fn run_machine(words: &[&str]) {
+    let options = Options(words);
+    options.only(&["--seed", "--tables"], &[]);
+    let face = ffi::built_for();
+    let mut drive = drive::Drive::new(face.as_ref(), options.seed());
+    let outcome = scripted::check_outside_run().and_then(|()| drive.run(options.number("--tables").unwrap_or(drive::TABLES)));
+    println!("seed {}", options.seed());
+    drive.print();
+    if let Err(why) = outcome {
+        fail(1, &why);
+    }
+    let left = drive.without_teeth();
+    if !left.is_empty() {
+        fail(4, &format!("the adversaries left standing: {}", left.join("; ")));
+    }
+    println!("machine: no figure exceeded");
+}
+
+fn run_bench(words: &[&str]) {
+    let options = Options(words);
+    options.only(&["--seed", "--repetitions"], &[]);
+    bench::run(ffi::built_for().as_ref(), options.seed(), options.number("--repetitions").unwrap_or(501));
 }
