@@ -157,7 +157,11 @@ impl Table {
         for channel in 0..self.channels {
             self.read_channel(&mut cursor, channel)?;
         }
-        if cursor.ends_clean() { Ok(()) } else { Err(refusal(11, 0)) }
+        if cursor.ends_clean() {
+            Ok(())
+        } else {
+            Err(refusal(11, 0))
+        }
     }
 
     fn read_header(&mut self, cursor: &mut Cursor) -> Result<(), u64> {
@@ -256,22 +260,23 @@ impl Table {
     fn bounds(&mut self) -> Result<(), u64> {
         let mut passed = [0u8; 128];
         let mut next = [DONE; 128];
+        let mut users = [0u8; 128];
         for channel in 0..self.channels {
             next[channel] = self.route[channel][0];
         }
         for wire in 0..self.wires {
-            let mut users = [0u8; 128];
             let mut count = 0;
-            let mut sum = 0;
-            for channel in 0..self.channels {
-                if next[channel] == wire as u8 {
-                    sum += self.price[channel] * self.hyperperiod;
-                    sum += self.share[channel] * self.jitter[channel];
+            let mut prices = 0;
+            let mut late = 0;
+            for (channel, &at) in next[..self.channels].iter().enumerate() {
+                if at == wire as u8 {
+                    prices += self.price[channel];
+                    late += self.share[channel] * self.jitter[channel];
                     users[count] = channel as u8;
                     count += 1;
                 }
             }
-            let backlog = sum / self.hyperperiod;
+            let backlog = prices + late / self.hyperperiod;
             if backlog > self.room[wire] {
                 return Err(refusal(13, wire));
             }
@@ -283,11 +288,8 @@ impl Table {
                 self.end[user] += delay + self.propagation[wire];
                 self.jitter[user] += delay - 1;
                 passed[user] += 1;
-                next[user] = if passed[user] == self.hops[user] {
-                    DONE
-                } else {
-                    self.route[user][passed[user] as usize]
-                };
+                next[user] =
+                    if passed[user] == self.hops[user] { DONE } else { self.route[user][passed[user] as usize] };
             }
         }
         Ok(())
@@ -381,8 +383,6 @@ pub fn ask_channel(sheet: &[u8], channel: u64) -> u64 {
     match counts(sheet) {
         Err(refused) => refused,
         Ok((_, channels)) if channel >= channels as u64 => refusal(19, 0),
-        Ok((wires, _)) => {
-            Cursor { bytes: sheet, at: 15 + 48 * wires + 28 * channel as usize }.take(28)
-        }
+        Ok((wires, _)) => Cursor { bytes: sheet, at: 15 + 48 * wires + 28 * channel as usize }.take(28),
     }
 }

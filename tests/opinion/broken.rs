@@ -132,13 +132,21 @@ impl Face for Broken {
 
     fn ask_wire(&self, sheet: &[u8], wire: u64) -> u64 {
         let reply = self.inner.ask_wire(sheet, wire);
-        if self.fault == 15 && reply >> 56 == 0 && wire >= 5 { reply + 1 } else { reply }
+        if self.fault == 15 && reply >> 56 == 0 && wire >= 5 {
+            reply + 1
+        } else {
+            reply
+        }
     }
 
     fn ask_channel(&self, sheet: &[u8], channel: u64) -> u64 {
         let channel = if self.fault == 16 { channel & 0xffff_ffff } else { channel };
         let reply = self.inner.ask_channel(sheet, channel);
-        if self.fault == 17 && reply >> 56 == 18 { 1 } else { reply }
+        if self.fault == 17 && reply >> 56 == 18 {
+            1
+        } else {
+            reply
+        }
     }
 
     fn price(&self, framing: u64, payload: u64) -> u64 {

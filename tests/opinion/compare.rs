@@ -95,6 +95,9 @@ impl<'a> Comparison<'a> {
         for _ in 0..4 {
             self.edges_of(&generate::MIDDLE)?;
         }
+        for _ in 0..3 {
+            self.edges_of(&generate::TOWERING)?;
+        }
         if round % 4 == 0 {
             self.edges_of(&generate::LONGEST)?;
         }
@@ -378,7 +381,10 @@ impl<'a> Comparison<'a> {
     pub fn print(&self) {
         println!("compared with the second opinion: {}", self.face.name());
         println!("tables {}, judgements {}", self.tables, self.judgements);
-        println!("accepted {}, of these with a jitter above 0: {}, longest: {}", self.accepted, self.with_jitter, self.longest);
+        println!(
+            "accepted {}, of these with a jitter above 0: {}, longest: {}",
+            self.accepted, self.with_jitter, self.longest
+        );
         println!("sheets asked {}, prices asked {}", self.asked, self.prices);
         println!("refusal  tables  all questions");
         for number in 1..=20 {

@@ -266,7 +266,8 @@ impl<'a> Drive<'a> {
 
     /// Wrong figures that the adversaries left standing.
     pub fn without_teeth(&self) -> Vec<String> {
-        let mut all: Vec<String> = self.wrong.iter().filter(|w| w.broken < EACH_WRONG).map(|w| w.what.to_string()).collect();
+        let mut all: Vec<String> =
+            self.wrong.iter().filter(|w| w.broken < EACH_WRONG).map(|w| w.what.to_string()).collect();
         if self.of_frames == 0 || self.eight_hops == 0 || self.rates.contains(&0) {
             all.push("messages of several frames, eight hops and three rates".to_string());
         }

@@ -176,6 +176,7 @@ pub struct Shape {
     pub wires: (u64, u64),
     pub channels: (u64, u64),
     pub hops: (u64, u64),
+    pub least_payload: u64,
     pub most_payload: u64,
     pub least_hyperperiod: u64,
     pub most_hyperperiod: u64,
@@ -185,6 +186,7 @@ pub const SMALL: Shape = Shape {
     wires: (1, 8),
     channels: (1, 10),
     hops: (1, 8),
+    least_payload: 1,
     most_payload: 65_535,
     least_hyperperiod: 1,
     most_hyperperiod: 12_500_000,
@@ -194,15 +196,28 @@ pub const LONGEST: Shape = Shape {
     wires: (64, 64),
     channels: (128, 128),
     hops: (8, 8),
+    least_payload: 1,
     most_payload: 1_464,
     least_hyperperiod: 100_000,
+    most_hyperperiod: 12_500_000,
+};
+
+/// Long messages over long routes in a long hyperperiod: the largest numerators, and jitters that
+/// grow from wire to wire until a room cannot hold the backlog.
+pub const TOWERING: Shape = Shape {
+    wires: (10, 64),
+    channels: (4, 40),
+    hops: (8, 8),
+    least_payload: 50_000,
+    most_payload: 65_535,
+    least_hyperperiod: 6_000_000,
     most_hyperperiod: 12_500_000,
 };
 
 const PAYLOADS: [u64; 19] =
     [1, 9, 10, 11, 37, 38, 39, 1_463, 1_464, 1_465, 1_491, 1_492, 1_493, 1_529, 1_530, 1_531, 2_984, 2_985, 65_535];
 
-fn payload(rng: &mut Rng, most: u64) -> u64 {
+fn payload(rng: &mut Rng, least: u64, most: u64) -> u64 {
     let drawn = match rng.below(6) {
         0 => 1,
         1 => rng.range(1, 100),
@@ -210,7 +225,7 @@ fn payload(rng: &mut Rng, most: u64) -> u64 {
         3 => rng.range(1, 65_535),
         _ => rng.range(1, 1_600),
     };
-    drawn.min(most)
+    drawn.clamp(least, most)
 }
 
 fn propagation(rng: &mut Rng) -> u64 {
@@ -240,7 +255,7 @@ fn channel(rng: &mut Rng, shape: &Shape, wires: u64, hyperperiod: &Hyperperiod) 
     let from = if rng.chance(2, 3) { hyperperiod.divisors.len() / 2 } else { 0 };
     DraftChannel {
         framing: rng.below(2),
-        payload: payload(rng, shape.most_payload),
+        payload: payload(rng, shape.least_payload, shape.most_payload),
         period: rng.pick(&hyperperiod.divisors[from..]),
         deadline: MOST_DEADLINE,
         hops,
@@ -326,6 +341,7 @@ pub const FOR_MACHINE: Shape = Shape {
     wires: (1, 10),
     channels: (1, 8),
     hops: (1, 8),
+    least_payload: 1,
     most_payload: 6_000,
     least_hyperperiod: 4,
     most_hyperperiod: 30_000,

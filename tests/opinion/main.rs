@@ -140,7 +140,8 @@ fn run_machine(words: &[&str]) {
     options.only(&["--seed", "--tables"], &[]);
     let face = ffi::built_for();
     let mut drive = drive::Drive::new(face.as_ref(), options.seed());
-    let outcome = scripted::check_outside_run().and_then(|()| drive.run(options.number("--tables").unwrap_or(drive::TABLES)));
+    let outcome =
+        scripted::check_outside_run().and_then(|()| drive.run(options.number("--tables").unwrap_or(drive::TABLES)));
     println!("seed {}", options.seed());
     drive.print();
     if let Err(why) = outcome {

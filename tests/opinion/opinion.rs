@@ -79,10 +79,8 @@ struct Framing {
     least: u128,
 }
 
-const FRAMINGS: [Framing; 2] = [
-    Framing { data: 1_492, overhead: 46, least: 38 },
-    Framing { data: 1_464, overhead: 74, least: 10 },
-];
+const FRAMINGS: [Framing; 2] =
+    [Framing { data: 1_492, overhead: 46, least: 38 }, Framing { data: 1_464, overhead: 74, least: 10 }];
 
 fn price_of(framing: usize, payload: u128) -> u128 {
     let row = &FRAMINGS[framing];
@@ -258,16 +256,11 @@ pub fn jitter_added(delay: u128) -> u128 {
 /// `added` is `jitter_added`; the teeth of the slot machine hand in wrong ones.
 pub fn bounds(table: &Table, added: fn(u128) -> u128) -> Answer<Figures> {
     let count = table.channels.len();
-    let mut figures = Figures {
-        backlogs: Vec::new(),
-        delays: Vec::new(),
-        ends: vec![0; count],
-        jitters: vec![Vec::new(); count],
-    };
+    let mut figures =
+        Figures { backlogs: Vec::new(), delays: Vec::new(), ends: vec![0; count], jitters: vec![Vec::new(); count] };
     let mut carried = vec![0; count];
     for (number, wire) in table.wires.iter().enumerate() {
-        let users: Vec<usize> =
-            (0..count).filter(|&c| table.channels[c].route.contains(&number)).collect();
+        let users: Vec<usize> = (0..count).filter(|&c| table.channels[c].route.contains(&number)).collect();
         let backlog = backlog(table, &users, &carried);
         if backlog > wire.room {
             return refuse(13, number);

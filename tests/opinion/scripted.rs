@@ -23,7 +23,10 @@ fn draft(hyperperiod: u64, wires: &[(u64, u64)], channels: &[(u64, u64, &[u64])]
         wire_count: wires.len() as u64,
         channel_count: channels.len() as u64,
         wires: wires.iter().map(|&(code, propagation)| DraftWire { code, propagation, room: 0 }).collect(),
-        channels: channels.iter().map(|&(payload, period, route)| plain_channel(payload, period, route.to_vec())).collect(),
+        channels: channels
+            .iter()
+            .map(|&(payload, period, route)| plain_channel(payload, period, route.to_vec()))
+            .collect(),
     };
     draft.tighten().expect("a sound table");
     draft
@@ -45,7 +48,11 @@ fn scripts() -> [Script; 4] {
         },
         Script {
             name: "a shuffled slot: releases in slot 0, frames due and a release in slot 2",
-            draft: draft(12, &[(2, 0), (2, 0)], &[(1, 6, &[0, 1]), (39, 12, &[0, 1]), (70, 12, &[0]), (70, 12, &[0, 1]), (1, 4, &[1])]),
+            draft: draft(
+                12,
+                &[(2, 0), (2, 0)],
+                &[(1, 6, &[0, 1]), (39, 12, &[0, 1]), (70, 12, &[0]), (70, 12, &[0, 1]), (1, 4, &[1])],
+            ),
             releases: &[(0, 3, 70), (0, 0, 1), (0, 2, 70), (0, 1, 39), (2, 4, 1)],
             orders: &[(2, 1, &[(4, 2), (0, 0), (3, 0)])],
         },
@@ -97,7 +104,10 @@ fn describe(table: &Table, figures: &opinion::Figures) -> Vec<String> {
     let mut lines = vec![format!("hyperperiod {}", table.hyperperiod)];
     for (number, wire) in table.wires.iter().enumerate() {
         let (backlog, delay) = (figures.backlogs[number], figures.delays[number]);
-        lines.push(format!("wire {number}: rate {} propagation {} backlog {backlog} delay {delay}", wire.rate, wire.propagation));
+        lines.push(format!(
+            "wire {number}: rate {} propagation {} backlog {backlog} delay {delay}",
+            wire.rate, wire.propagation
+        ));
     }
     for (number, channel) in table.channels.iter().enumerate() {
         let frames = machine::frames(channel.framing, channel.payload as u64);

@@ -158,7 +158,8 @@ pub fn document_cases(face: &dyn Face) -> Result<(), String> {
 }
 
 fn document_prices(face: &dyn Face) -> Result<(), String> {
-    let plain = [(1, 84), (37, 84), (38, 84), (39, 85), (1_492, 1_538), (1_493, 1_622), (1_530, 1_622), (65_535, 67_559)];
+    let plain =
+        [(1, 84), (37, 84), (38, 84), (39, 85), (1_492, 1_538), (1_493, 1_622), (1_530, 1_622), (65_535, 67_559)];
     let udp = [(10, 84), (11, 85), (1_465, 1_622)];
     let all = plain.iter().map(|p| (0, p)).chain(udp.iter().map(|p| (1, p)));
     for (framing, &(payload, cost)) in all {
