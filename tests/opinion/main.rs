@@ -102,6 +102,7 @@ fn run_vectors(file: &str) {
     });
     let result = vectors::document_cases(face.as_ref()).and_then(|()| vectors::run(&text, face.as_ref()));
     match result {
+        Ok(kinds) if kinds.values().sum::<usize>() < vectors::LINES => fail(4, &format!("vectors: too few: {kinds:?}")),
         Ok(kinds) => println!("vectors: {kinds:?} agree: the second opinion and {}", face.name()),
         Err(why) => fail(1, &format!("vectors: {why}")),
     }

@@ -6,6 +6,9 @@ use crate::hex;
 use crate::opinion::{self, Answer, Refusal};
 use std::collections::BTreeMap;
 
+/// Lines that a whole file of vectors has.
+pub const LINES: usize = 700;
+
 /// Runs a file of vectors; returns how many lines of each kind there were, or the first wrong line.
 pub fn run(text: &str, face: &dyn Face) -> Result<BTreeMap<String, usize>, String> {
     let mut kinds = BTreeMap::new();
@@ -125,6 +128,10 @@ fn board_by(table: &[u8], face: &dyn Face) -> String {
     text
 }
 
+const DOCUMENT_004: &str = "0030d4100800000200000000200000000200000000200000000200000000200000000200000000200002430030d400186a2006012180186a000c3510230013c001388001388811c038c00138800222e41880";
+
+const LATE_CHANNEL: &str = "0030d4142400002000000002000000002000000002000000002000000002000000002000000002000000002000000002000005d40030d400f424200902ea00186a007a1210248175000c35003d09082240ba80061a801e848419205d40030d400f424210902ea00186a007a1210a48175000c35003d09086240ba80061a801e848439228cc0030d400f42410051980061a801e848208a33000c35003d09042146600186a007a1208628cc0030d400f42411051980061a801e848228a33000c35003d09046146600186a007a1208e00010030d40069782209146600186a007a120900";
+
 /// The figures that document 01 gives to check by, those that are not among the vectors' kinds.
 pub fn document_cases(face: &dyn Face) -> Result<(), String> {
     let cases = [
@@ -154,7 +161,28 @@ pub fn document_cases(face: &dyn Face) -> Result<(), String> {
             }
         }
     }
+    outside_tables(face)?;
     document_prices(face)
+}
+
+/// The two longer tables that come with the vectors: document 004's, and the late channel.
+fn outside_tables(face: &dyn Face) -> Result<(), String> {
+    let table = bytes(DOCUMENT_004)?;
+    let backlogs = [625, 750, 0, 500, 599, 0, 1_318, 199];
+    let ends = [1_943, 2_068, 949, 1_099];
+    let mut sheet = [0; 834];
+    let length = face.judge(&table, &mut sheet) as usize;
+    let Ok(accepted) = opinion::verdict(&table, 834) else { return Err("document 004's table is refused".to_string()) };
+    let of_opinion = accepted.figures.backlogs == backlogs && accepted.figures.ends == ends;
+    let of_face = length == accepted.sheet.len() && sheet[..length] == accepted.sheet[..];
+    if !of_opinion || !of_face {
+        return Err("document 004's table has other figures".to_string());
+    }
+    let table = bytes(LATE_CHANNEL)?;
+    match [opinion::board(&table), board_by(&table, face)] {
+        [first, second] if first == second && first == "refused 14 16\n" => Ok(()),
+        others => Err(format!("the late channel: {others:?}")),
+    }
 }
 
 fn document_prices(face: &dyn Face) -> Result<(), String> {
