@@ -3,7 +3,7 @@
 use crate::ffi::{self, Face};
 use crate::opinion::{self, Answer, Refusal, Table};
 
-pub const FAULTS: [&str; 20] = [
+pub const FAULTS: [&str; 22] = [
     "the length of an accepted sheet is one more",
     "refusal 14 is called 13",
     "every refusal has place 0",
@@ -24,6 +24,8 @@ pub const FAULTS: [&str; 20] = [
     "plain payload 1,530 costs 1,623",
     "payload 65,536 is taken for 0 and then for 1",
     "jitter grows by the delay minus 2",
+    "load is a sum of hundredths, each rounded up",
+    "no channels are taken for nothing late",
 ];
 
 pub struct Broken {
@@ -42,6 +44,7 @@ impl Broken {
             (1, 0) => reply + 1,
             (2, 14) => reply - (1 << 56),
             (3, number) if number > 0 => number << 56,
+            (22, 4) => 8,
             _ => reply,
         }
     }
@@ -70,6 +73,7 @@ impl Broken {
             12 => opinion::bounds(&harder(&table, 1, 0), opinion::jitter_added),
             13 => full_refused(&table).and_then(|()| opinion::bounds(&table, opinion::jitter_added)),
             20 => opinion::bounds(&table, |delay| delay.saturating_sub(2)),
+            21 => hundredths_refused(&table).and_then(|()| opinion::bounds(&table, opinion::jitter_added)),
             _ => return None,
         };
         let table = if self.fault == 11 { harder(&table, 0, 1) } else { table };
@@ -91,6 +95,18 @@ fn harder(table: &Table, room: u128, deadline: u128) -> Table {
 fn full_refused(table: &Table) -> Answer<()> {
     for (number, wire) in table.wires.iter().enumerate() {
         if opinion::load(table, number) >= wire.rate * table.hyperperiod {
+            return Err(Refusal { number: 12, place: number as u8 });
+        }
+    }
+    Ok(())
+}
+
+/// Test 12 over hundredths of the wire, those of each channel rounded up.
+fn hundredths_refused(table: &Table) -> Answer<()> {
+    for (number, wire) in table.wires.iter().enumerate() {
+        let users = table.channels.iter().filter(|channel| channel.route.contains(&number));
+        let hundredths = |channel: &opinion::Channel| (100 * channel.price()).div_ceil(channel.period * wire.rate);
+        if users.map(hundredths).sum::<u128>() > 100 {
             return Err(Refusal { number: 12, place: number as u8 });
         }
     }
