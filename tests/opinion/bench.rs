@@ -1,0 +1,70 @@
+//! The benchmark: the face and the baseline judge the same accepted tables in one run. It prints
+//! times and ratios and asserts none of them.
+
+use crate::ffi::{Baseline, Face};
+use crate::generate::{self, Shape, LONGEST};
+use crate::rng::Rng;
+use std::hint::black_box;
+use std::time::Instant;
+
+/// Wires and channels of the tables judged; every route has 8 hops.
+const SIZES: [(u64, u64); 3] = [(16, 32), (32, 64), (64, 128)];
+const HOPS: u64 = 8;
+/// Judgements timed together.
+const BATCH: u32 = 20;
+
+pub fn run(face: &dyn Face, seed: u64, repetitions: u64) {
+    println!("{} against the baseline, medians of {repetitions} times {BATCH} judgements", face.name());
+    println!("wires channels bytes  wires x channels + hops      face ns  baseline ns   ratio  face ns/unit  baseline ns/unit");
+    for (wires, channels) in SIZES {
+        let table = table(seed, wires, channels);
+        let (mine, base) = medians(face, &table, repetitions);
+        let units = (wires * channels + channels * HOPS) as f64;
+        println!(
+            "{wires:5} {channels:8} {:5} {units:24} {mine:12.0} {base:12.0} {:7.2} {:13.2} {:17.2}",
+            table.len(),
+            mine / base,
+            mine / units,
+            base / units
+        );
+    }
+}
+
+/// An accepted table of that size with nothing to spare.
+fn table(seed: u64, wires: u64, channels: u64) -> Vec<u8> {
+    let mut rng = Rng::new(seed);
+    let pool = generate::hyperperiods(&mut rng);
+    let shape = Shape { wires: (wires, wires), channels: (channels, channels), hops: (HOPS, HOPS), ..LONGEST };
+    loop {
+        let mut draft = generate::sound(&mut rng, &shape, &pool);
+        if draft.tighten().is_some() && draft.channels.len() as u64 == channels {
+            return draft.encode();
+        }
+    }
+}
+
+/// The median times of one judgement, in nanoseconds, both taken in turn.
+fn medians(face: &dyn Face, table: &[u8], repetitions: u64) -> (f64, f64) {
+    let mut mine = Vec::new();
+    let mut base = Vec::new();
+    for _ in 0..repetitions {
+        mine.push(time(face, table));
+        base.push(time(&Baseline, table));
+    }
+    (median(mine), median(base))
+}
+
+fn time(face: &dyn Face, table: &[u8]) -> f64 {
+    let mut sheet = [0; 834];
+    let start = Instant::now();
+    for _ in 0..BATCH {
+        let reply = black_box(face).judge(black_box(table), black_box(&mut sheet));
+        assert_eq!(reply >> 56, 0, "an accepted table");
+    }
+    start.elapsed().as_nanos() as f64 / BATCH as f64
+}
+
+fn median(mut times: Vec<f64>) -> f64 {
+    times.sort_by(f64::total_cmp);
+    times[times.len() / 2]
+}

@@ -1,0 +1,192 @@
+//! Faces broken on purpose, one fault each: the comparison has to see every one of them.
+
+use crate::ffi::{self, Face};
+use crate::opinion::{self, Answer, Refusal, Table};
+
+pub const FAULTS: [&str; 22] = [
+    "the length of an accepted sheet is one more",
+    "refusal 14 is called 13",
+    "every refusal has place 0",
+    "a refusal leaves the buffer as it was",
+    "the byte after the lent buffer is written",
+    "one bit of the last channel's delay is turned",
+    "bytes after the sheet are 0",
+    "jitter is left out",
+    "each channel's share of a backlog is rounded up",
+    "each channel's share of a backlog is rounded down",
+    "a deadline exactly met is refused",
+    "a room exactly met is refused",
+    "a load exactly full is refused",
+    "a further byte of 0 is overlooked",
+    "a wire's delay is one more from wire 5 on",
+    "channels are numbered modulo 2^32",
+    "the filling bits of a sheet are not looked at",
+    "plain payload 1,530 costs 1,623",
+    "payload 65,536 is taken for 0 and then for 1",
+    "jitter grows by the delay minus 2",
+    "load is a sum of hundredths, each rounded up",
+    "no channels are taken for nothing late",
+];
+
+pub struct Broken {
+    inner: Box<dyn Face>,
+    fault: usize,
+}
+
+impl Broken {
+    /// `fault` counts from 1.
+    pub fn new(inner: Box<dyn Face>, fault: usize) -> Option<Broken> {
+        (1..=FAULTS.len()).contains(&fault).then_some(Broken { inner, fault })
+    }
+
+    fn wrong_reply(&self, reply: u64) -> u64 {
+        match (self.fault, reply >> 56) {
+            (1, 0) => reply + 1,
+            (2, 14) => reply - (1 << 56),
+            (3, number) if number > 0 => number << 56,
+            (22, 4) => 8,
+            _ => reply,
+        }
+    }
+
+    fn wrong_buffer(&self, reply: u64, before: &[u8], sheet: &mut [u8]) {
+        let accepted = reply >> 56 == 0;
+        match self.fault {
+            4 if !accepted => sheet.copy_from_slice(before),
+            // SAFETY: none; a library that writes past its buffer. The comparer's guard lies there.
+            5 => unsafe { sheet.as_mut_ptr().add(sheet.len()).write_volatile(255) },
+            6 if accepted => sheet[reply as usize - 2] ^= 1,
+            7 if accepted => sheet[reply as usize..].fill(0),
+            _ => {}
+        }
+    }
+
+    /// The verdict of a judge that has one rule wrong; None where the right judge may speak.
+    fn wrong_verdict(&self, bytes: &[u8]) -> Option<Answer<Vec<u8>>> {
+        let table = opinion::decode(bytes).ok()?;
+        opinion::test_loads(&table).ok()?;
+        let wrong = match self.fault {
+            8 => opinion::bounds(&table, |_| 0),
+            9 => shares_rounded(&table, |numerator, h| numerator.div_ceil(h)),
+            10 => shares_rounded(&table, |numerator, h| numerator / h),
+            11 => opinion::bounds(&harder(&table, 0, 1), opinion::jitter_added),
+            12 => opinion::bounds(&harder(&table, 1, 0), opinion::jitter_added),
+            13 => full_refused(&table).and_then(|()| opinion::bounds(&table, opinion::jitter_added)),
+            20 => opinion::bounds(&table, |delay| delay.saturating_sub(2)),
+            21 => hundredths_refused(&table).and_then(|()| opinion::bounds(&table, opinion::jitter_added)),
+            _ => return None,
+        };
+        let table = if self.fault == 11 { harder(&table, 0, 1) } else { table };
+        Some(wrong.and_then(|figures| {
+            opinion::test_deadlines(&table, &figures)?;
+            Ok(opinion::write_sheet(&figures))
+        }))
+    }
+}
+
+/// The table with smaller rooms and deadlines.
+fn harder(table: &Table, room: u128, deadline: u128) -> Table {
+    let mut table = table.clone();
+    table.wires.iter_mut().for_each(|wire| wire.room = wire.room.saturating_sub(room));
+    table.channels.iter_mut().for_each(|channel| channel.deadline = channel.deadline.saturating_sub(deadline));
+    table
+}
+
+fn full_refused(table: &Table) -> Answer<()> {
+    for (number, wire) in table.wires.iter().enumerate() {
+        if opinion::load(table, number) >= wire.rate * table.hyperperiod {
+            return Err(Refusal { number: 12, place: number as u8 });
+        }
+    }
+    Ok(())
+}
+
+/// Test 12 over hundredths of the wire, those of each channel rounded up.
+fn hundredths_refused(table: &Table) -> Answer<()> {
+    for (number, wire) in table.wires.iter().enumerate() {
+        let users = table.channels.iter().filter(|channel| channel.route.contains(&number));
+        let hundredths = |channel: &opinion::Channel| (100 * channel.price()).div_ceil(channel.period * wire.rate);
+        if users.map(hundredths).sum::<u128>() > 100 {
+            return Err(Refusal { number: 12, place: number as u8 });
+        }
+    }
+    Ok(())
+}
+
+/// The bounds with one rounding for each channel in the place of one at the end.
+fn shares_rounded(table: &Table, round: fn(u128, u128) -> u128) -> Answer<opinion::Figures> {
+    let mut figures = opinion::bounds(table, opinion::jitter_added)?;
+    let h = table.hyperperiod;
+    for (number, wire) in table.wires.iter().enumerate() {
+        let mut sum = 0;
+        for (channel, jitters) in table.channels.iter().zip(&figures.jitters) {
+            if let Some(hop) = channel.route.iter().position(|&w| w == number) {
+                let c = channel.price();
+                sum += round(c * h + c * (h / channel.period) * jitters[hop], h);
+            }
+        }
+        figures.backlogs[number] = sum;
+        figures.delays[number] = sum.div_ceil(wire.rate);
+    }
+    Ok(figures)
+}
+
+impl Face for Broken {
+    fn judge(&self, table: &[u8], sheet: &mut [u8]) -> u64 {
+        if let Some(verdict) = self.wrong_verdict(table) {
+            return spoken(verdict, sheet);
+        }
+        let before = sheet.to_vec();
+        let table = match table {
+            [shorter @ .., 0] if self.fault == 14 && opinion::decode(shorter).is_ok() => shorter,
+            table => table,
+        };
+        let reply = self.inner.judge(table, sheet);
+        self.wrong_buffer(reply, &before, sheet);
+        self.wrong_reply(reply)
+    }
+
+    fn ask_wire(&self, sheet: &[u8], wire: u64) -> u64 {
+        let reply = self.inner.ask_wire(sheet, wire);
+        if self.fault == 15 && reply >> 56 == 0 && wire >= 5 {
+            reply + 1
+        } else {
+            reply
+        }
+    }
+
+    fn ask_channel(&self, sheet: &[u8], channel: u64) -> u64 {
+        let channel = if self.fault == 16 { channel & 0xffff_ffff } else { channel };
+        let reply = self.inner.ask_channel(sheet, channel);
+        if self.fault == 17 && reply >> 56 == 18 {
+            1
+        } else {
+            reply
+        }
+    }
+
+    fn price(&self, framing: u64, payload: u64) -> u64 {
+        match (self.fault, framing, payload) {
+            (18, 0, 1_530) => 1_623,
+            (19, _, 65_536) => self.inner.price(framing, 1),
+            _ => self.inner.price(framing, payload),
+        }
+    }
+
+    fn name(&self) -> &'static str {
+        FAULTS[self.fault - 1]
+    }
+}
+
+fn spoken(verdict: Answer<Vec<u8>>, sheet: &mut [u8]) -> u64 {
+    sheet.fill(255);
+    let verdict = match verdict {
+        Ok(wrong) if wrong.len() > sheet.len() => Err(Refusal { number: 15, place: 0 }),
+        Ok(wrong) => {
+            sheet[..wrong.len()].copy_from_slice(&wrong);
+            Ok(wrong.len())
+        }
+        Err(refusal) => Err(refusal),
+    };
+    ffi::judge_reply(&verdict)
+}

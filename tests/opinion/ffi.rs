@@ -1,0 +1,124 @@
+//! The library's C face, `libmagsurinda.a`, and faces of the same kind: the baseline, and faces
+//! broken on purpose. With `--cfg archive` the runner links the library; without it only the
+//! baseline stands behind the same interface, to try the runner itself.
+
+use crate::baseline;
+use crate::opinion::Answer;
+
+/// One face: the four functions, over slices.
+pub trait Face {
+    fn judge(&self, table: &[u8], sheet: &mut [u8]) -> u64;
+    fn ask_wire(&self, sheet: &[u8], wire: u64) -> u64;
+    fn ask_channel(&self, sheet: &[u8], channel: u64) -> u64;
+    fn price(&self, framing: u64, payload: u64) -> u64;
+    fn name(&self) -> &'static str;
+}
+
+pub struct Baseline;
+
+impl Face for Baseline {
+    fn judge(&self, table: &[u8], sheet: &mut [u8]) -> u64 {
+        baseline::judge(table, sheet)
+    }
+    fn ask_wire(&self, sheet: &[u8], wire: u64) -> u64 {
+        baseline::ask_wire(sheet, wire)
+    }
+    fn ask_channel(&self, sheet: &[u8], channel: u64) -> u64 {
+        baseline::ask_channel(sheet, channel)
+    }
+    fn price(&self, framing: u64, payload: u64) -> u64 {
+        baseline::price(framing, payload)
+    }
+    fn name(&self) -> &'static str {
+        "baseline"
+    }
+}
+
+#[cfg(archive)]
+mod archive {
+    #[link(name = "magsurinda", kind = "static")]
+    extern "C" {
+        pub fn magsurinda_judge(table: *const u8, table_len: usize, sheet: *mut u8, sheet_len: usize) -> u64;
+        pub fn magsurinda_ask_wire(sheet: *const u8, sheet_len: usize, wire: u64) -> u64;
+        pub fn magsurinda_ask_channel(sheet: *const u8, sheet_len: usize, channel: u64) -> u64;
+        pub fn magsurinda_price(framing: u64, payload: u64) -> u64;
+    }
+}
+
+/// The library.
+#[cfg(archive)]
+pub struct Library;
+
+// SAFETY, for all four: pointer and length come from one live slice, the table and the lent sheet
+// are different slices, and the library reads and writes only within them.
+#[cfg(archive)]
+impl Face for Library {
+    fn judge(&self, table: &[u8], sheet: &mut [u8]) -> u64 {
+        unsafe { archive::magsurinda_judge(table.as_ptr(), table.len(), sheet.as_mut_ptr(), sheet.len()) }
+    }
+    fn ask_wire(&self, sheet: &[u8], wire: u64) -> u64 {
+        unsafe { archive::magsurinda_ask_wire(sheet.as_ptr(), sheet.len(), wire) }
+    }
+    fn ask_channel(&self, sheet: &[u8], channel: u64) -> u64 {
+        unsafe { archive::magsurinda_ask_channel(sheet.as_ptr(), sheet.len(), channel) }
+    }
+    fn price(&self, framing: u64, payload: u64) -> u64 {
+        unsafe { archive::magsurinda_price(framing, payload) }
+    }
+    fn name(&self) -> &'static str {
+        "libmagsurinda.a"
+    }
+}
+
+/// The face that the runner was built for.
+#[cfg(archive)]
+pub fn built_for() -> Box<dyn Face> {
+    Box::new(Library)
+}
+
+#[cfg(not(archive))]
+pub fn built_for() -> Box<dyn Face> {
+    Box::new(Baseline)
+}
+
+/// Whether NULL with length 0 gets the replies of empty slices.
+#[cfg(archive)]
+pub fn null_is_empty() -> bool {
+    use std::ptr::{null, null_mut};
+    let face = Library;
+    let table = [0u8; 5];
+    // SAFETY: a length of 0 names no byte.
+    unsafe {
+        archive::magsurinda_judge(null(), 0, null_mut(), 0) == face.judge(&[], &mut [])
+            && archive::magsurinda_judge(table.as_ptr(), 5, null_mut(), 0) == face.judge(&table, &mut [])
+            && archive::magsurinda_ask_wire(null(), 0, 0) == face.ask_wire(&[], 0)
+            && archive::magsurinda_ask_channel(null(), 0, 0) == face.ask_channel(&[], 0)
+    }
+}
+
+#[cfg(not(archive))]
+pub fn null_is_empty() -> bool {
+    true
+}
+
+// ---- the reply in 64 bits ----
+
+/// Refusal number × 2^56 + place × 2^48 + value.
+fn in_64_bits<T>(answer: &Answer<T>, value: impl Fn(&T) -> u64) -> u64 {
+    match answer {
+        Ok(granted) => value(granted),
+        Err(refusal) => (refusal.number as u64) << 56 | (refusal.place as u64) << 48,
+    }
+}
+
+pub fn judge_reply(answer: &Answer<usize>) -> u64 {
+    in_64_bits(answer, |&length| length as u64)
+}
+
+pub fn wire_reply(answer: &Answer<(u128, u128)>) -> u64 {
+    in_64_bits(answer, |&(backlog, delay)| (backlog << 24 | delay) as u64)
+}
+
+pub fn figure_reply(answer: &Answer<u128>) -> u64 {
+    in_64_bits(answer, |&figure| figure as u64)
+}

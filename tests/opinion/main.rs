@@ -1,0 +1,162 @@
+//! A second opinion on the library: `opinion COMMAND`, see `USAGE`.
+
+mod adversary;
+mod baseline;
+mod bench;
+mod broken;
+mod compare;
+mod drive;
+mod ffi;
+mod generate;
+mod hex;
+mod machine;
+mod opinion;
+mod rng;
+mod scripted;
+mod vectors;
+
+use ffi::Face;
+use std::process::exit;
+
+const USAGE: &str = "\
+opinion vectors FILE     the outside vectors, answered by the second opinion and by the face
+opinion compare [OPTIONS]  the face compared with the second opinion on generated tables
+    --seed S             another seed; --tables N   more tables
+    --reduced N          only N tables, with no demand on their counts
+    --baseline           compare the baseline in the place of the library
+    --break N            compare a face with fault N: has to exit 1
+opinion machine [--seed S] [--tables N]
+                         the slot machine driven by adversaries on tables with nothing to spare
+opinion bench [--seed S] [--repetitions N]
+                         times of the face and of the baseline, and their ratio at three sizes
+opinion scripted         four small runs of the slot machine, slot by slot
+opinion faults           the faults that --break knows, one to a line
+Exit status: 0 agreed; 1 a disagreement or a figure exceeded, printed; 2 bad usage; 4 too few of a
+kind were compared, or wrong figures were left standing.
+";
+
+const SEED: u64 = 20_261_115;
+
+fn main() {
+    let words: Vec<String> = std::env::args().skip(1).collect();
+    let words: Vec<&str> = words.iter().map(String::as_str).collect();
+    match words[..] {
+        ["vectors", file] => run_vectors(file),
+        ["compare", ref rest @ ..] => run_compare(rest),
+        ["machine", ref rest @ ..] => run_machine(rest),
+        ["bench", ref rest @ ..] => run_bench(rest),
+        ["scripted"] => print!("{}", scripted::text()),
+        ["faults"] => broken::FAULTS.iter().enumerate().for_each(|(at, what)| println!("{} {what}", at + 1)),
+        _ => usage(),
+    }
+}
+
+fn usage() -> ! {
+    eprint!("{USAGE}");
+    exit(2)
+}
+
+fn fail(status: i32, why: &str) -> ! {
+    println!("{why}");
+    exit(status)
+}
+
+/// The options given, each with its number.
+struct Options<'a>(&'a [&'a str]);
+
+impl Options<'_> {
+    fn number(&self, name: &str) -> Option<u64> {
+        let at = self.0.iter().position(|&word| word == name)?;
+        match self.0.get(at + 1).map(|word| word.parse()) {
+            Some(Ok(number)) => Some(number),
+            _ => usage(),
+        }
+    }
+
+    fn has(&self, name: &str) -> bool {
+        self.0.contains(&name)
+    }
+
+    /// Refuses words that are neither a name of the list nor its number.
+    fn only(&self, numbered: &[&str], plain: &[&str]) {
+        let mut words = self.0.iter();
+        while let Some(word) = words.next() {
+            if numbered.contains(word) {
+                words.next();
+            } else if !plain.contains(word) {
+                usage();
+            }
+        }
+    }
+
+    fn seed(&self) -> u64 {
+        self.number("--seed").unwrap_or(SEED)
+    }
+}
+
+fn run_vectors(file: &str) {
+    let face = ffi::built_for();
+    let text = std::fs::read_to_string(file).unwrap_or_else(|why| {
+        eprintln!("opinion: {file}: {why}");
+        exit(2)
+    });
+    let result = vectors::document_cases(face.as_ref()).and_then(|()| vectors::run(&text, face.as_ref()));
+    match result {
+        Ok(kinds) if kinds.values().sum::<usize>() < vectors::LINES => fail(4, &format!("vectors: too few: {kinds:?}")),
+        Ok(kinds) => println!("vectors: {kinds:?} agree: the second opinion and {}", face.name()),
+        Err(why) => fail(1, &format!("vectors: {why}")),
+    }
+}
+
+fn run_compare(words: &[&str]) {
+    let options = Options(words);
+    options.only(&["--seed", "--tables", "--reduced", "--break"], &["--baseline"]);
+    let mut face: Box<dyn Face> = if options.has("--baseline") { Box::new(ffi::Baseline) } else { ffi::built_for() };
+    if let Some(fault) = options.number("--break") {
+        let Some(broken) = broken::Broken::new(face, fault as usize) else { usage() };
+        face = Box::new(broken);
+    }
+    let mut comparison = compare::Comparison::new(face.as_ref(), options.seed());
+    let reduced = options.number("--reduced");
+    let outcome = match reduced {
+        Some(tables) => comparison.run_reduced(tables),
+        None => comparison.run(options.number("--tables").unwrap_or(0).max(compare::TABLES)),
+    };
+    println!("seed {}", options.seed());
+    comparison.print();
+    if let Err(why) = outcome {
+        fail(1, &format!("DISAGREEMENT: {why}"));
+    }
+    if reduced.is_none() {
+        let shortfalls = comparison.shortfalls();
+        if !shortfalls.is_empty() {
+            fail(4, &format!("too few compared: {}", shortfalls.join("; ")));
+        }
+    }
+    println!("compare: all agree");
+}
+
+fn run_machine(words: &[&str]) {
+    let options = Options(words);
+    options.only(&["--seed", "--tables"], &[]);
+    let face = ffi::built_for();
+    let mut drive = drive::Drive::new(face.as_ref(), options.seed());
+    let outcome =
+        scripted::check_outside_run().and_then(|()| drive.run(options.number("--tables").unwrap_or(drive::TABLES)));
+    println!("seed {}", options.seed());
+    drive.print();
+    if let Err(why) = outcome {
+        fail(1, &why);
+    }
+    let left = drive.without_teeth();
+    if !left.is_empty() {
+        fail(4, &format!("the adversaries left standing: {}", left.join("; ")));
+    }
+    println!("machine: no figure exceeded");
+}
+
+fn run_bench(words: &[&str]) {
+    let options = Options(words);
+    options.only(&["--seed", "--repetitions"], &[]);
+    bench::run(ffi::built_for().as_ref(), options.seed(), options.number("--repetitions").unwrap_or(501));
+}
