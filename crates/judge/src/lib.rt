@@ -1,6 +1,7 @@
 // Judging a table: the one entry. The stages are modules, each of which goes by what the stage before has shown.
 mod bounds;
 mod writing;
+
 ghost use mathlib.Core.Path.{_≡_};
 ghost use lib.ListN.{length, replicate};
 ghost use Rattle.rules.specs.Replies.{judgingReply};

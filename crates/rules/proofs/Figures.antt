@@ -9,7 +9,7 @@ use Rattle.rules.specs.Words.{sum, total, only}
 use Rattle.rules.specs.Price.{price, lastBytes}
 use Rattle.rules.specs.Table.{View}
 use Rattle.rules.specs.Bounds.{cost, times, on, loadOf, load, shareOf, backlogAfter, known, backlog, delay, endToEnd}
-use Rattle.rules.specs.Machine.{Frame, Releases, Keeps, Run, AnyOrder, message, held, Gone, lastWire, goneBelow, delivered, ofChannel}
+use Rattle.rules.specs.Machine.{Frame, Releases, Keeps, Run, AnyOrder, message, sending, unsent, Gone, lastWire, goneBelow, delivered, ofChannel}
 use Rattle.rules.proofs.Sound.{Sound}
 use Rattle.rules.proofs.Sums.{sum-le, sum-add, sum-scale, sum-none, sum-alone, sum-grows, total-append}
 use Rattle.rules.proofs.Orders.{bool-cases, same, any-order-complete}
@@ -174,7 +174,7 @@ module _
             divided (t .hyper) x y shares (sound .hyper-least) (omega (arith, shares-most a d, mul-le-mul-left d (fits w lw))) in
             omega (arith, most, sum-none (suc (a + d)))
 
-    base : (w : ℕ) → w < t .wires → Server (t .rate w) (λ s. t .rate w) (λ s. 0) (λ s. 0) (run .queue w) (run .arrived w) (run .gone w)
+    base : (w : ℕ) → w < t .wires → Server (t .rate w) (sending t w) (λ s. 0) (λ s. 0) (run .queue w) (run .arrived w) (run .gone w)
     base w l =
         record {
           empty = run .empty w l;
@@ -194,12 +194,12 @@ module _
           mul-le-mul-left {m = delay t w} {n = suc (lagOf t w)} (t .rate w) (omega arith),
         )
 
-    wired : (w : ℕ) → w < t .wires → Passes (run .arrived w) (run .gone w) (lagOf t w) × ((s : ℕ) → held run w s + 0 ≤ backlog t w)
+    wired : (w : ℕ) → w < t .wires → Passes (run .arrived w) (run .gone w) (lagOf t w) × ((s : ℕ) → unsent run w s + 0 ≤ backlog t w)
     wired =
-        network (t .wires) (t .rate) (λ w s. t .rate w) (λ w s. 0) (λ w s. 0) (run .queue) (run .arrived) (run .gone) base
+        network (t .wires) (t .rate) (sending t) (λ w s. 0) (λ w s. 0) (run .queue) (run .arrived) (run .gone) base
         (backlog t) (lagOf t) burst-rule enough
 
-    pub backlog-holds : (w slot : ℕ) → w < t .wires → held run w slot ≤ backlog t w
+    pub backlog-holds : (w slot : ℕ) → w < t .wires → unsent run w slot ≤ backlog t w
     backlog-holds w slot l = omega (arith, wired w l .1 slot)
 
     -- the time over the whole route

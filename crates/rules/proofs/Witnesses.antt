@@ -17,7 +17,7 @@ use Rattle.rules.specs.Reading.{headTests, wireTests, hopTests, recordTe
 use Rattle.rules.specs.Bounds.{loadOf, load, along, jitter, shareOf, backlogAfter, delayAfter, delaysBelow, backlog, delay, endToEnd}
 use Rattle.rules.specs.Sheet.{figuresAt, endAt, sheetLength}
 use Rattle.rules.specs.Judgement.{loadTest, roomTest, deadlineTest, boundsTests, judge}
-use Rattle.rules.specs.Machine.{Frame, Releases, Keeps, message, ofChannel, bornIn, after, source, reaching, dueFrom, dueBelow, due, AnyOrder, none, more, here, sent, kept, bytes, Run, held, lastWire, goneBelow, delivered, Order, arrivals, step, played}
+use Rattle.rules.specs.Machine.{Frame, Releases, Keeps, message, ofChannel, bornIn, after, source, reaching, dueFrom, dueBelow, due, AnyOrder, none, more, here, sent, kept, bytes, Run, unsent, lastWire, goneBelow, delivered, Order, arrivals, step, played}
 use Rattle.rules.proofs.Sums.{total-append}
 use Rattle.rules.proofs.Orders.{same, any-order-complete}
 use Rattle.rules.proofs.Played.{played-run}
@@ -97,9 +97,9 @@ pub a-accepted : judge caseA 12 ≡ granted (12 ∷ [])
 unfolding definitions
 a-accepted = refl
 
-pub a-held : held runA 0 0 ≡ 84
+pub a-unsent : unsent runA 0 0 ≡ 84
 unfolding definitions
-a-held = refl
+a-unsent = refl
 
 pub a-message : message (viewOf caseA) (periodic (viewOf caseA)) 0 0 ≡ record { channel = 0; born = 0; size = 84 } ∷ []
 unfolding definitions
@@ -130,9 +130,9 @@ pub later-figures : (backlog (viewOf later) 1 ≡ 168) × (endToEnd (viewOf late
 unfolding definitions
 later-figures = (refl, refl)
 
-pub later-held : held runLater 1 3 ≡ 168
+pub later-unsent : unsent runLater 1 3 ≡ 168
 unfolding definitions
-later-held = refl
+later-unsent = refl
 
 pub later-message : message (viewOf later) (periodic (viewOf later)) 0 0 ≡ record { channel = 0; born = 0; size = 84 } ∷ []
 unfolding definitions

@@ -112,6 +112,10 @@ bytes q = total (λ (x : Waiting). x .left) q
 abbrev pub joined : List Waiting → List Frame → List Waiting
 joined queue arrivals = queue ++ map whole arrivals
 
+-- the bytes that wire w may send in a slot
+abbrev pub sending : View → ℕ → ℕ → ℕ
+sending t w slot = t .rate w
+
 -- A run, for each wire and slot: the queue before the slot, what arrives, what is gone.
 pub record Run (t : View) (released : Releases) : Type 0 where
   pub queue : ℕ → ℕ → List Waiting
@@ -119,12 +123,12 @@ pub record Run (t : View) (released : Releases) : Type 0 where
   pub gone : Gone
   pub empty : (w : ℕ) → w < t .wires → queue w 0 ≡ []
   pub any-order : (w slot : ℕ) → w < t .wires → AnyOrder (due t released gone w slot) (arrived w slot)
-  pub sends : (w slot : ℕ) → w < t .wires → gone w slot ≡ sent (t .rate w) (joined (queue w slot) (arrived w slot))
-  pub keeps : (w slot : ℕ) → w < t .wires → queue w (suc slot) ≡ kept (t .rate w) (joined (queue w slot) (arrived w slot))
+  pub sends : (w slot : ℕ) → w < t .wires → gone w slot ≡ sent (sending t w slot) (joined (queue w slot) (arrived w slot))
+  pub keeps : (w slot : ℕ) → w < t .wires → queue w (suc slot) ≡ kept (sending t w slot) (joined (queue w slot) (arrived w slot))
 
 -- Backlog is counted after arrivals and before sending.
-abbrev pub held : {t : View} {released : Releases} → Run t released → ℕ → ℕ → ℕ
-held run w slot = bytes (joined (run .queue w slot) (run .arrived w slot))
+abbrev pub unsent : {t : View} {released : Releases} → Run t released → ℕ → ℕ → ℕ
+unsent run w slot = bytes (joined (run .queue w slot) (run .arrived w slot))
 
 -- the wire that a route ends with
 unfoldable pub lastWire : List ℕ → ℕ
@@ -165,8 +169,8 @@ unfoldable pub step : View → Releases → Order → ℕ → State → State
 step t released order slot state =
     let full = listed (λ w. joined (queueIn state w) (arrivals t released order slot state w)) (t .wires) in
     record {
-      queues = listed (λ w. kept (t .rate w) (getD full w [])) (t .wires);
-      past = listed (λ w. sent (t .rate w) (getD full w [])) (t .wires) ∷ state .past;
+      queues = listed (λ w. kept (sending t w slot) (getD full w [])) (t .wires);
+      past = listed (λ w. sent (sending t w slot) (getD full w [])) (t .wires) ∷ state .past;
     }
 
 unfoldable pub played : View → Releases → Order → ℕ → State
