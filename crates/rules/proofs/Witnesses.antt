@@ -18,6 +18,7 @@ use Rattle.rules.specs.Bounds.{loadOf, load, along, jitter, shareOf, bac
 use Rattle.rules.specs.Sheet.{figuresAt, endAt, sheetLength}
 use Rattle.rules.specs.Judgement.{loadTest, roomTest, deadlineTest, boundsTests, judge}
 use Rattle.rules.specs.Machine.{Frame, Releases, Keeps, message, ofChannel, bornIn, reaching, dueFrom, due, AnyOrder, none, more, here, sent, kept, bytes, Run, unsent, delivered, Order, arrivals, step, played}
+use Rattle.rules.specs.Cases.{caseA}
 use Rattle.rules.proofs.Sums.{total-append}
 use Rattle.rules.proofs.Orders.{same, any-order-complete}
 use Rattle.rules.proofs.Played.{played-run}
@@ -87,9 +88,6 @@ unfolding bit field sum total has test each lastBytes price hyperOf wiresOf chan
 definitions = tt
 
 -- Case A: wire 0 holds exactly its backlog, and the message takes exactly its end-to-end delay.
-abbrev pub caseA : List ℕ
-caseA = 0x00 ∷ 0x03 ∷ 0x48 ∷ 0x02 ∷ 0x02 ∷ 0x00 ∷ 0xe0 ∷ 0x00 ∷ 0x0a ∷ 0x80 ∷ 0x00 ∷ 0x10 ∷ 0x00 ∷ 0x05 ∷ 0x40 ∷ 0x00 ∷ 0x05 ∷ 0xb1 ∷ 0x00 ∷ []
-
 abbrev pub runA : Run (viewOf caseA) (periodic (viewOf caseA))
 runA = played-run (viewOf caseA) (periodic (viewOf caseA)) in-turn in-turn-any
 

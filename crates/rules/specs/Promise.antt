@@ -2,7 +2,7 @@
 use mathlib.Core.Path.{_≡_}
 use mathlib.Core.List.{List, [], _∷_}
 use Prim.Native.Nat.{ℕ, _+_, _≤_, _<_}
-use lib.ListN.{getD, take}
+use lib.ListN.{take}
 use Rattle.rules.specs.Replies.{Reply, granted, refused}
 use Rattle.rules.specs.Table.{viewOf}
 use Rattle.rules.specs.Sheet.{askWire, askChannel}
@@ -11,7 +11,8 @@ use Rattle.rules.specs.Machine.{Releases, Keeps, Run, AnyOrder, message,
 
 -- the reply is granted, and P holds of its first value
 abbrev pub Granted : Reply → (ℕ → Type 0) → Type 0
-Granted (granted values) P = P (getD values 0 0)
+Granted (granted (value ∷ more)) P = P value
+Granted (granted []) P = ⊥
 Granted (refused number place) P = ⊥
 
 -- Of a table s, its sheet, what is released and a run:
