@@ -113,7 +113,8 @@ a-there = refl
 
 -- A later wire, with a jitter that counts: H 4; two wires of rate 100; channel 0 payload 1, period 2, route 0, 1; channel 1
 -- payload 71, period 4, route 0. Channel 1's frame goes first and holds channel 0's first back until its second is close
--- behind, and overtakes it: wire 1 holds exactly its backlog, and the first message takes exactly its end-to-end delay.
+-- behind; at wire 1 the second goes first. Wire 1 holds exactly its backlog, and the first message takes exactly its
+-- end-to-end delay.
 abbrev pub later : List ℕ
 later = 0x00 ∷ 0x00 ∷ 0x04 ∷ 0x04 ∷ 0x05 ∷ 0x00 ∷ 0x00 ∷ 0x00 ∷ 0x19 ∷ 0x30 ∷ 0x00 ∷ 0x00 ∷ 0x01 ∷ 0x50 ∷ 0x00 ∷ 0x01 ∷ 0x00 ∷ 0x00 ∷ 0x02 ∷ 0x00 ∷ 0x00 ∷ 0x05 ∷ 0x20 ∷ 0x01 ∷ 0x00 ∷ 0x23 ∷ 0x80 ∷ 0x00 ∷ 0x02 ∷ 0x00 ∷ 0x00 ∷ 0x01 ∷ 0x88 ∷ 0x00 ∷ []
 
@@ -178,3 +179,11 @@ over =
 pub one-over : judge over 12 ≡ refused 12 0
 unfolding over definitions
 one-over = refl
+
+-- Zero channels: H 1, one wire.
+pub none-listed : List ℕ
+none-listed = 0x00 ∷ 0x00 ∷ 0x01 ∷ 0x02 ∷ 0x00 ∷ 0x00 ∷ 0x00 ∷ 0x00 ∷ 0x0a ∷ 0x80 ∷ []
+
+pub zero-channels : judge none-listed 12 ≡ refused 4 0
+unfolding none-listed definitions
+zero-channels = refl

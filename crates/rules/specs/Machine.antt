@@ -27,7 +27,7 @@ whole f = record { frame = f; left = f .size }
 abbrev pub Releases : Type 0
 Releases = ℕ → ℕ → ℕ
 
--- Messages may carry 1 byte up to the declared payload; each channel's are at least its period apart.
+-- Messages may carry 1 byte up to the declared payload. Demand 3: each channel's are at least its period apart.
 pub record Keeps (t : View) (released : Releases) : Type 0 where
   pub declared : (k r : ℕ) → k < t .channels → released k r ≤ t .payload k
   pub apart : (k r later : ℕ) → k < t .channels → r < later → 0 < released k r → 0 < released k later → r + t .period k ≤ later
