@@ -1,5 +1,4 @@
 -- Asking: a sheet as written gives its figures and 19 for other numbers; what is no sheet gives one refusal to all.
--- Assumes nothing.
 use mathlib.Core.Path.{_≡_, refl, sym, ap, ap₂, _∙_}
 use mathlib.Core.List.{List, [], _∷_, _++_}
 use Prim.Native.Nat.{ℕ, zero, suc, _+_, _-_, _≤_, _<_}

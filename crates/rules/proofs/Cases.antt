@@ -1,5 +1,6 @@
 -- The marked cases hold, by computation.
 use mathlib.Core.Path.{refl}
+use mathlib.Core.List.{List, [], _∷_}
 use Rattle.bits.specs.Field.{bit, field, putBit, putField}
 use Rattle.rules.specs.Words.{sum, total, listed, has}
 use Rattle.rules.specs.Replies.{test, each}
@@ -9,9 +10,21 @@ use Rattle.rules.specs.Reading.{headTests, wireTests, hopTests, recordTe
 use Rattle.rules.specs.Bounds.{loadOf, load, along, jitter, shareOf, backlogAfter, delayAfter, delaysBelow, backlog, delay, endToEnd}
 use Rattle.rules.specs.Sheet.{figuresAt, endAt, sheetLength, withHead, withWires, withChannels, sheetOf}
 use Rattle.rules.specs.Judgement.{loadTest, roomTest, deadlineTest, boundsTests, judge, sheet, leaves, buffer}
-use Rattle.rules.specs.Cases.{MarkedCases, all, _and_, figuresOf, evaluate}
+use Rattle.rules.specs.Cases.{Case, cases, Same, Hold, MarkedCases, all, _and_, figuresOf, evaluate}
+
+-- Case by case and figure by figure: where one differs, the refusal names it.
+abbrev Each : List Case → Type 0
+Each [] = Unit {0}
+Each (c ∷ cs) = Same (evaluate (c .question)) (c .figures) × Each cs
+
+hold : (cs : List Case) → Each cs → Hold cs
+hold [] e = all
+hold (c ∷ cs) e = e .0 and hold cs (e .1)
+
+each-holds : Each cases
+unfolding bit field putBit putField sum total has test each lastBytes price askPrice hyperOf wiresOf channelsOf wireAt codeOf rateOf propOf roomOf framingAt payloadAt periodAt deadlineAt hopsAt routeAt channelAt endOf fillingOf headTests wireTests hopTests recordTests channelTests fillingTests readingTests loadOf load along jitter shareOf backlogAfter delayAfter delaysBelow backlog delay endToEnd figuresAt endAt sheetLength withHead withWires withChannels sheetOf loadTest roomTest deadlineTest boundsTests judge sheet leaves buffer listed figuresOf evaluate
+each-holds =
+    ((refl, refl, refl, refl, refl, refl), ((refl, refl, refl, refl, refl, refl), ((refl, refl, refl, refl, refl, refl), ((refl, refl, refl, refl, refl, refl), ((refl, refl, refl, refl, refl, refl), ((refl, refl, refl, refl, refl, refl), ((refl, refl, refl, refl, refl, refl), ((refl, refl, refl, refl, refl, refl), ((refl, refl, refl, refl, refl, refl), ((refl, refl, refl, refl, refl, refl), ((refl, refl, refl, refl, refl, refl), ((refl, refl, refl, refl, refl, refl), ((refl, refl, refl, refl, refl, refl), ((refl, refl, refl, refl, refl, refl), ((refl, refl, refl, refl, refl, refl), ((refl, refl, refl, refl, refl, refl), tt))))))))))))))))
 
 pub marked-cases : MarkedCases
-unfolding bit field putBit putField sum total has test each lastBytes price askPrice hyperOf wiresOf channelsOf wireAt codeOf rateOf propOf roomOf framingAt payloadAt periodAt deadlineAt hopsAt routeAt channelAt endOf fillingOf headTests wireTests hopTests recordTests channelTests fillingTests readingTests loadOf load along jitter shareOf backlogAfter delayAfter delaysBelow backlog delay endToEnd figuresAt endAt sheetLength withHead withWires withChannels sheetOf loadTest roomTest deadlineTest boundsTests judge sheet leaves buffer listed figuresOf evaluate
-marked-cases =
-    (refl, refl, refl, refl, refl, refl) and (refl, refl, refl, refl, refl, refl) and (refl, refl, refl, refl, refl, refl) and (refl, refl, refl, refl, refl, refl) and (refl, refl, refl, refl, refl, refl) and (refl, refl, refl, refl, refl, refl) and (refl, refl, refl, refl, refl, refl) and (refl, refl, refl, refl, refl, refl) and (refl, refl, refl, refl, refl, refl) and (refl, refl, refl, refl, refl, refl) and (refl, refl, refl, refl, refl, refl) and (refl, refl, refl, refl, refl, refl) and (refl, refl, refl, refl, refl, refl) and (refl, refl, refl, refl, refl, refl) and (refl, refl, refl, refl, refl, refl) and (refl, refl, refl, refl, refl, refl) and all
+marked-cases = hold cases each-holds

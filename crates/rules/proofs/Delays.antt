@@ -9,6 +9,7 @@ use native.Mathlib.Omega.{arith}
 use lib.ListN.{length, length-append, List·getD-append}
 use lib.Seq.{getD-append-add}
 use Rattle.rules.specs.Words.{sum}
+use Rattle.rules.specs.Price.{smallFrame}
 use Rattle.rules.specs.Table.{View}
 use Rattle.rules.specs.Bounds.{cost, on, along, jitter, shareOf, backlogAfter, delayAfter, delaysBelow, known, backlog, delay}
 use Rattle.rules.proofs.Sound.{Sound, Climbs}
@@ -57,6 +58,6 @@ unfolding delay delayAfter backlogAfter shareOf
 delay-least t sound w k lw lk there =
     let shares = sum (shareOf t (known t w) w) (t .channels) in
     let share : cost t k * t .hyper ≤ shareOf t (known t w) w k = rw there (omega arith) in
-    let dear : 84 * t .hyper ≤ cost t k * t .hyper = mul-le-mul-right (t .hyper) (price-least (t .framing k) (t .payload k) (sound .framing-most k lk) (sound .payload-least k lk)) in
+    let dear : smallFrame * t .hyper ≤ cost t k * t .hyper = mul-le-mul-right (t .hyper) (price-least (t .framing k) (t .payload k) (sound .framing-most k lk) (sound .payload-least k lk)) in
     let some : 1 ≤ shares / t .hyper = le-div-iff-mul-le (sound .hyper-least) .1 (omega (arith, sum-has (shareOf t (known t w) w) (t .channels) k lk)) in
     le-div-iff-mul-le (sound .rate-least w lw) .1 (omega (arith, sound .rate-least w lw))

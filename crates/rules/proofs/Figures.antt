@@ -5,20 +5,20 @@ use Prim.Native.Nat.{ℕ, zero, suc, _+_, _-_, _*_, _/_, _≤_, _<_}
 use native.Mathlib.Nat.{mul-le-mul-left, lt-div-mul-add, eq-zero-or-pos}
 use native.Mathlib.Decide.{decLe}
 use native.Mathlib.Omega.{arith}
-use Rattle.rules.specs.Words.{sum, total, only}
+use Rattle.rules.specs.Words.{sum, total, only, gathered}
 use Rattle.rules.specs.Price.{price, lastBytes}
-use Rattle.rules.specs.Table.{View}
+use Rattle.rules.specs.Table.{View, lastWire}
 use Rattle.rules.specs.Bounds.{cost, times, on, loadOf, load, shareOf, backlogAfter, known, backlog, delay, endToEnd}
-use Rattle.rules.specs.Machine.{Frame, Releases, Keeps, Run, AnyOrder, message, held, Gone, lastWire, goneBelow, delivered, ofChannel}
+use Rattle.rules.specs.Machine.{Frame, Releases, Keeps, Run, AnyOrder, message, sending, unsent, Gone, reaching, delivered, ofChannel}
 use Rattle.rules.proofs.Sound.{Sound}
-use Rattle.rules.proofs.Sums.{sum-le, sum-add, sum-scale, sum-none, sum-alone, sum-grows, total-append}
+use Rattle.rules.proofs.Sums.{sum-le, sum-add, sum-scale, sum-none, sum-alone, sum-grows, total-gathered}
 use Rattle.rules.proofs.Orders.{bool-cases, same, any-order-complete}
 use Rattle.rules.proofs.Prices.{frames-price, price-grows}
 use Rattle.rules.proofs.Routes.{nowhere-off, last-there, last-total, route-same, along-add, climbs-below}
 use Rattle.rules.proofs.Gaps.{window-most}
 use Rattle.rules.proofs.Delays.{jitter-known, delay-enough, delay-least}
 use Rattle.rules.proofs.Server.{Server, Bursts, Passes, before, sizeOf}
-use Rattle.rules.proofs.Flow.{own, young, into, total-channel, total-born, total-message, message-young, message-other, none-into, came-sum, came-own, flows, window, longer, shortest}
+use Rattle.rules.proofs.Flow.{own, young, into, total-channel, total-born, total-message, message-young, message-other, none-into, reached, came-sum, came-own, flows, window, longer, shortest}
 use Rattle.rules.proofs.Network.{network}
 
 -- A message is priced by its payload.
@@ -73,20 +73,18 @@ divided h x y z l le =
     ]
 
 -- What has reached the destination is what has left the last wire.
-total-gone : (gone : Gone) (v : ℕ) (g : Frame → ℕ) (n : ℕ) → total g (goneBelow gone v n) ≡ before (gone v) g n
-unfolding goneBelow sum total
-total-gone gone v g zero = refl
-total-gone gone v g (suc n) = omega (arith, total-append g (goneBelow gone v n) (gone v n), total-gone gone v g n)
-
 total-delivered :
     (t : View) (gone : Gone) (k r slot : ℕ) (g : Frame → ℕ) →
     total g (delivered t gone k r slot)
-    ≡ before (gone (lastWire (t .route k))) (own k (young r g)) (slot - t .prop (lastWire (t .route k)))
+    ≡ before (gone (lastWire (t .route k))) (own k (young r g)) (suc slot - (1 + t .prop (lastWire (t .route k))))
 unfolding delivered
 total-delivered t gone k r slot g =
     let z = lastWire (t .route k) in
-    let left = goneBelow gone z (slot - t .prop z) in
-    total-born g r (ofChannel k left) ∙ total-channel (young r g) k left ∙ total-gone gone z (own k (young r g)) (slot - t .prop z)
+    let there = gathered (reaching t gone z) (suc slot) in
+    total-born g r (ofChannel k there)
+    ∙ total-channel (young r g) k there
+    ∙ total-gathered (own k (young r g)) (reaching t gone z) (suc slot)
+    ∙ reached t gone z (own k (young r g)) (suc slot)
 
 -- Of one message's weight, all is released in its slot.
 module _ (t : View) (released : Releases) (k r : ℕ) (g : Frame → ℕ) where
@@ -174,7 +172,7 @@ module _
             divided (t .hyper) x y shares (sound .hyper-least) (omega (arith, shares-most a d, mul-le-mul-left d (fits w lw))) in
             omega (arith, most, sum-none (suc (a + d)))
 
-    base : (w : ℕ) → w < t .wires → Server (t .rate w) (λ s. t .rate w) (λ s. 0) (λ s. 0) (run .queue w) (run .arrived w) (run .gone w)
+    base : (w : ℕ) → w < t .wires → Server (t .rate w) (sending t w) (λ s. 0) (λ s. 0) (run .queue w) (run .arrived w) (run .gone w)
     base w l =
         record {
           empty = run .empty w l;
@@ -194,12 +192,12 @@ module _
           mul-le-mul-left {m = delay t w} {n = suc (lagOf t w)} (t .rate w) (omega arith),
         )
 
-    wired : (w : ℕ) → w < t .wires → Passes (run .arrived w) (run .gone w) (lagOf t w) × ((s : ℕ) → held run w s + 0 ≤ backlog t w)
+    wired : (w : ℕ) → w < t .wires → Passes (run .arrived w) (run .gone w) (lagOf t w) × ((s : ℕ) → unsent run w s + 0 ≤ backlog t w)
     wired =
-        network (t .wires) (t .rate) (λ w s. t .rate w) (λ w s. 0) (λ w s. 0) (run .queue) (run .arrived) (run .gone) base
+        network (t .wires) (t .rate) (sending t) (λ w s. 0) (λ w s. 0) (run .queue) (run .arrived) (run .gone) base
         (backlog t) (lagOf t) burst-rule enough
 
-    pub backlog-holds : (w slot : ℕ) → w < t .wires → held run w slot ≤ backlog t w
+    pub backlog-holds : (w slot : ℕ) → w < t .wires → unsent run w slot ≤ backlog t w
     backlog-holds w slot l = omega (arith, wired w l .1 slot)
 
     -- the time over the whole route
@@ -231,7 +229,7 @@ module _
           let lz = climbs-below (t .wires) 0 z xs c there in
           let flow = flows t released (run .arrived) (run .gone) (run .any-order) (lagOf t) k lk c z (λ v below lv. wired v lv .0) there in
           let passes = wired z lz .0 in
-          let n = slot - t .prop z in
+          let n = suc slot - (1 + t .prop z) in
           let onto = r + (shortest t z k + longer t (lagOf t) z k) in
           let came : suc r + (shortest t z k + longer t (lagOf t) z k) ≡ suc onto = omega arith in
           omega (

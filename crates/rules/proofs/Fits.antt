@@ -1,5 +1,4 @@
 -- The figures of a table that passed 13 and 14 fit the sheet.
--- Assumes nothing.
 use Prim.Native.Nat.{ℕ, suc, _^_, _≤_, _<_}
 use native.Mathlib.Nat.{div-lt-iff-lt-mul, mul-le-mul-left}
 use native.Mathlib.Omega.{arith}

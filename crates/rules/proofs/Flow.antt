@@ -10,11 +10,11 @@ use lib.Dec.{eqb}
 use borrow.Author.Tests.{eq-eqb, ne-eqb, le-leb, lt-leb}
 use Rattle.rules.specs.Words.{sum, total, only, has}
 use Rattle.rules.specs.Price.{frames}
-use Rattle.rules.specs.Table.{View}
+use Rattle.rules.specs.Table.{View, Source, nowhere, release, wire, source}
 use Rattle.rules.specs.Bounds.{along}
-use Rattle.rules.specs.Machine.{Frame, Releases, message, ofChannel, bornIn, Source, nowhere, release, wire, source, Gone, reaching, dueFrom, dueBelow, due, AnyOrder}
+use Rattle.rules.specs.Machine.{Frame, Releases, message, ofChannel, bornIn, Gone, reaching, dueFrom, due, AnyOrder}
 use Rattle.rules.proofs.Sound.{Climbs}
-use Rattle.rules.proofs.Sums.{ascend, sum-same, sum-swap, sum-alone, sum-none, sum-grows, total-append, total-same, total-none, total-map}
+use Rattle.rules.proofs.Sums.{ascend, sum-same, sum-swap, sum-alone, sum-none, sum-grows, total-append, total-same, total-none, total-map, total-gathered}
 use Rattle.rules.proofs.Orders.{any-order-total}
 use Rattle.rules.proofs.Routes.{Follows, Begins, follows, climbs-below}
 use Rattle.rules.proofs.Server.{before, Passes}
@@ -108,17 +108,8 @@ pub none-into :
 unfolding dueFrom total
 none-into t released gone w k e g n = ap (λ (src : Source). before (λ slot. dueFrom src t released gone slot k) g n) e ∙ sum-none n
 
-due-sum :
-    (t : View) (released : Releases) (gone : Gone) (w slot n : ℕ) (g : Frame → ℕ) →
-    total g (dueBelow t released gone w slot n) ≡ sum (λ (k : ℕ). total g (into t released gone w k slot)) n
-unfolding dueBelow sum total
-due-sum t released gone w slot zero g = refl
-due-sum t released gone w slot (suc n) g =
-    total-append g (dueBelow t released gone w slot n) (into t released gone w n slot)
-    ∙ ap (λ (x : ℕ). x + total g (into t released gone w n slot)) (due-sum t released gone w slot n g)
-
 -- 1 + propagation slots later
-reached :
+pub reached :
     (t : View) (gone : Gone) (v : ℕ) (g : Frame → ℕ) (n : ℕ) →
     before (reaching t gone v) g n ≡ before (gone v) g (n - (1 + t .prop v))
 unfolding sum total reaching
@@ -159,7 +150,7 @@ module _
         (w slot : ℕ) → w < t .wires → (g : Frame → ℕ) →
         total g (arrived w slot) ≡ sum (λ (k : ℕ). total g (into t released gone w k slot)) (t .channels)
     unfolding due
-    arrived-sum w slot l g = sym (any-order-total g (any-order w slot l)) ∙ due-sum t released gone w slot (t .channels) g
+    arrived-sum w slot l g = sym (any-order-total g (any-order w slot l)) ∙ total-gathered g (λ k. into t released gone w k slot) (t .channels)
 
     -- what comes to a wire is what its channels bring
     pub came-sum :

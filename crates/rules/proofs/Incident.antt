@@ -64,7 +64,7 @@ each-alike I f g end step a (suc left) e x =
 -- ---- a string and its first k bytes
 
 -- where the last field of the longest table ends
-abbrev longestEnd : ℕ
+abbrev pub longestEnd : ℕ
 longestEnd = headBits + wireBits * wiresMost + (fixedBits + hopBits * hopsMost) * channelsMost
 
 -- where the channels' records below c have passed, in both
@@ -231,6 +231,10 @@ longest s e =
       | same n p a b ↦ absurd (not-both (fields-through s e) a)
       | lack q b ↦ absurd (not-both (fields-through s e) (rw take-length at b))
     ]
+
+-- and that long is one of most wires, channels and hops
+pub longest-reached : up longestEnd 8 ≡ tableLongest
+longest-reached = refl
 
 -- A string longer than the longest table is refused as its first 2,166 bytes are, whatever would follow.
 pub longer-reading : (s : List ℕ) → suc tableLongest ≤ length s

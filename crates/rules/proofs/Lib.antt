@@ -1,3 +1,4 @@
+pub mod AcceptedSheet
 pub mod Asking
 pub mod Cases
 pub mod Columns

@@ -5,7 +5,7 @@ use native.Mathlib.Omega.{arith}
 use Rattle.rules.specs.Words.{sum}
 use Rattle.rules.specs.Machine.{Waiting, Frame, bytes, joined}
 use Rattle.rules.proofs.Sums.{ascend}
-use Rattle.rules.proofs.Server.{Server, Bursts, Passes, held-most, passes}
+use Rattle.rules.proofs.Server.{Server, Bursts, Passes, unsent-most, passes}
 
 module _
     (wires : ℕ) (rate : ℕ → ℕ) (room block extra : ℕ → ℕ → ℕ) (queue : ℕ → ℕ → List Waiting) (arrived gone : ℕ → ℕ → List Frame)
@@ -23,7 +23,7 @@ module _
         Passes (arrived w) (gone w) (lag w) × ((s : ℕ) → bytes (joined (queue w s) (arrived w s)) + block w s ≤ burst w)
     network =
         ascend (λ (w : ℕ). w < wires → Passes (arrived w) (gone w) (lag w) × ((s : ℕ) → bytes (joined (queue w s) (arrived w s)) + block w s ≤ burst w)) (λ w below l.
-        let most = held-most (rate w) (room w) (block w) (extra w) (queue w) (arrived w) (gone w) (server w l) (burst w) (rule w l (λ v less lv. below v less lv .0)) in (
+        let most = unsent-most (rate w) (room w) (block w) (extra w) (queue w) (arrived w) (gone w) (server w l) (burst w) (rule w l (λ v less lv. below v less lv .0)) in (
           passes (rate w) (room w) (block w) (extra w) (queue w) (arrived w) (gone w) (server w l) (lag w) (λ s. omega (arith, most s, enough w s l)),
           most,
         ))

@@ -9,9 +9,9 @@ use lib.Dec.{leb}
 use lib.ListN.{length, getD, length-append, getD-replicate, List·getD-append}
 use lib.Seq.{getD-append-add}
 use borrow.Author.Tests.{le-leb, lt-leb}
-use Rattle.rules.specs.Words.{listed}
-use Rattle.rules.specs.Table.{View}
-use Rattle.rules.specs.Machine.{Frame, Waiting, Releases, Source, nowhere, release, wire, source, Gone, ofChannel, reaching, dueFrom, dueBelow, due, AnyOrder, sent, kept, joined, Run, Order, queueIn, goneIn, arrivals, step, played}
+use Rattle.rules.specs.Words.{listed, gathered}
+use Rattle.rules.specs.Table.{View, Source, nowhere, release, wire, source}
+use Rattle.rules.specs.Machine.{Frame, Waiting, Releases, Gone, ofChannel, reaching, dueFrom, due, AnyOrder, sent, kept, joined, sending, Run, Order, queueIn, goneIn, arrivals, step, played}
 
 length-listed : {A : Type 0} (f : ℕ → A) (n : ℕ) → length (listed f n) ≡ n
 unfolding listed
@@ -29,6 +29,11 @@ getD-listed f (suc n) i d l =
       | no other ↦
           List·getD-append (listed f n) (f n ∷ []) d i (omega (arith, length-listed f n)) ∙ getD-listed f n i d (omega arith)
     ]
+
+gathered-same : {A : Type 0} (f g : ℕ → List A) (n : ℕ) → ((i : ℕ) → f i ≡ g i) → gathered f n ≡ gathered g n
+unfolding gathered
+gathered-same f g zero e = refl
+gathered-same f g (suc n) e = rw (gathered-same f g n e, e n) refl
 
 -- What is due in a slot reads only what was gone before it.
 module _
@@ -53,14 +58,9 @@ module _
     from-same release k = refl
     from-same (wire v) k = ap (ofChannel k) (reaching-same v)
 
-    below-same : (w n : ℕ) → dueBelow t released one w slot n ≡ dueBelow t released other w slot n
-    unfolding dueBelow
-    below-same w zero = refl
-    below-same w (suc n) = rw (below-same w n, from-same (source (t .route n) w) n) refl
-
     due-same : (w : ℕ) → due t released one w slot ≡ due t released other w slot
     unfolding due
-    due-same w = below-same w (t .channels)
+    due-same w = gathered-same _ _ (t .channels) (λ k. from-same (source (t .route k) w) k)
 
 module _ (t : View) (released : Releases) (order : Order) where
   -- what was gone in a slot, seen from right after it
@@ -81,26 +81,26 @@ module _ (t : View) (released : Releases) (order : Order) where
             ∙ seen-later slot v earlier (omega arith))
       ]
 
-  -- what arrives, and what is then held
+  -- what arrives, and what then waits
   abbrev pub arrivedAt : ℕ → ℕ → List Frame
   arrivedAt w slot = arrivals t released order slot (played t released order slot) w
 
-  abbrev pub heldAt : ℕ → ℕ → List Waiting
-  heldAt w slot = joined (queueIn (played t released order slot) w) (arrivedAt w slot)
+  abbrev pub waitingAt : ℕ → ℕ → List Waiting
+  waitingAt w slot = joined (queueIn (played t released order slot) w) (arrivedAt w slot)
 
   module _ (w slot : ℕ) (l : w < t .wires) where
-    pub queue-next : queueIn (played t released order (suc slot)) w ≡ kept (t .rate w) (heldAt w slot)
+    pub queue-next : queueIn (played t released order (suc slot)) w ≡ kept (sending t w slot) (waitingAt w slot)
     unfolding played step
     queue-next =
-        getD-listed _ (t .wires) w [] l ∙ ap (kept (t .rate w)) (getD-listed (λ w. heldAt w slot) (t .wires) w [] l)
+        getD-listed _ (t .wires) w [] l ∙ ap (kept (sending t w slot)) (getD-listed (λ w. waitingAt w slot) (t .wires) w [] l)
 
-    pub gone-now : goneAt w slot ≡ sent (t .rate w) (heldAt w slot)
+    pub gone-now : goneAt w slot ≡ sent (sending t w slot) (waitingAt w slot)
     unfolding played step
     gone-now =
         let now : suc slot - suc slot ≡ 0 = omega arith in
         ap (λ (i : ℕ). getD (getD (played t released order (suc slot) .past) i []) w []) now
         ∙ getD-listed _ (t .wires) w [] l
-        ∙ ap (sent (t .rate w)) (getD-listed (λ w. heldAt w slot) (t .wires) w [] l)
+        ∙ ap (sent (sending t w slot)) (getD-listed (λ w. waitingAt w slot) (t .wires) w [] l)
 
     pub due-now :
         ((slot w : ℕ) (fs : List Frame) → AnyOrder fs (order slot w fs)) → AnyOrder (due t released goneAt w slot) (arrivedAt w slot)

@@ -1,4 +1,4 @@
--- Laws of the price, over any fair row: the frames of a message sum to its price, each is 84 to 1,538 bytes, and the price
+-- Laws of the price, over any fair row: the frames of a message sum to its price, each is smallest to full, and the price
 -- does not fall when the payload grows.
 use mathlib.Core.Path.{_≡_, refl, ap, sym, _∙_}
 use mathlib.Core.Bool.{Bool, true, false, cond}
@@ -97,12 +97,17 @@ price-one zero h = refl
 price-one (suc zero) h = refl
 price-one (suc (suc n)) h = absurd (omega arith)
 
--- at least 84, and at most 68,865, that of 65,535 bytes with IP and UDP
+-- at least the smallest frame
 pub price-least : (framing payload : ℕ) → framing ≤ 1 → 1 ≤ payload → smallFrame ≤ price framing payload
 price-least framing payload h l = omega (arith, price-one framing h, price-grows framing h 1 payload l)
 
+-- and at most what the largest payload costs with IP and UDP
 abbrev pub priceMost : ℕ
 priceMost = 68865
+
+pub most-reached : price 1 payloadMost ≡ priceMost
+unfolding price lastBytes
+most-reached = refl
 
 longest : (framing : ℕ) → framing ≤ 1 → price framing payloadMost ≤ priceMost
 unfolding price lastBytes
@@ -153,7 +158,7 @@ unfolding lastFrame
 every-last row f zero h = tt
 every-last row f (suc r) h = rw eqb·suc-zero ((last-some row f (suc r) (omega arith) .0, last-most row f (suc r) h), tt)
 
--- every frame is 84 to 1,538 bytes
+-- every frame is smallest to full
 pub frames-sizes : (framing payload : ℕ) → framing ≤ 1 → Every FrameSize (frames framing payload)
 unfolding frames
 frames-sizes framing payload h =

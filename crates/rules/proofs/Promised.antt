@@ -3,8 +3,7 @@ use native.Mathlib.Omega.{arith}
 use Rattle.rules.specs.Table.{viewOf}
 use Rattle.rules.specs.Promise.{Promise}
 use Rattle.rules.proofs.JudgementLaws.{judge-accepted}
-use Rattle.rules.proofs.Asking.{accepted-asked}
-use Rattle.rules.proofs.Fits.{fits-view}
+use Rattle.rules.proofs.AcceptedSheet.{accepted-answers}
 use Rattle.rules.proofs.Figures.{backlog-holds, delivered-whole}
 
 pub promise : Promise
@@ -13,7 +12,7 @@ promise s lent length e released keeps run =
     let t = viewOf s in
     let sound = accepted .0 .sound in
     let bounded = accepted .0 .bounded in
-    let answers = accepted-asked s lent length e (accepted .1) (fits-view s sound (bounded .backlogs) (bounded .ends)) in
+    let answers = accepted-answers s lent length e .0 in
     record {
       backlogs = λ w l. rw (answers .wire w l) (λ slot. omega (arith, backlog-holds t sound (bounded .loads) released keeps run w slot l));
       delays = λ k l.

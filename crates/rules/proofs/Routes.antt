@@ -10,8 +10,8 @@ use lib.Dec.{eqb}
 use lib.ListN.{length}
 use borrow.Author.Tests.{eq-eqb, ne-eqb}
 use Rattle.rules.specs.Words.{total, has}
+use Rattle.rules.specs.Table.{Source, nowhere, release, wire, after, source, lastWire}
 use Rattle.rules.specs.Bounds.{along}
-use Rattle.rules.specs.Machine.{Source, nowhere, release, wire, after, source, lastWire}
 use Rattle.rules.proofs.Sound.{Climbs}
 
 true-false : true ≡ false → ⊥

@@ -104,8 +104,8 @@ module _
     (rate : ℕ) (room block extra : ℕ → ℕ) (queue : ℕ → List Waiting) (arrived gone : ℕ → List Frame)
     (server : Server rate room block extra queue arrived gone)
   where
-    held-bytes : (s : ℕ) → bytes (joined (queue s) (arrived s)) ≡ bytes (queue s) + total sizeOf (arrived s)
-    held-bytes s = omega (arith, bytes-append (queue s) (map whole (arrived s)), bytes-whole (arrived s))
+    unsent-bytes : (s : ℕ) → bytes (joined (queue s) (arrived s)) ≡ bytes (queue s) + total sizeOf (arrived s)
+    unsent-bytes s = omega (arith, bytes-append (queue s) (map whole (arrived s)), bytes-whole (arrived s))
 
     left-bytes : (s : ℕ) → bytes (queue (suc s)) ≡ bytes (joined (queue s) (arrived s)) - room s
     left-bytes s = ap bytes (server .keeps s) ∙ kept-bytes (room s) (joined (queue s) (arrived s))
@@ -124,7 +124,7 @@ module _
           weight-whole g (arrived s),
         ))
 
-    -- Busy period: where every window that ends in slot s and begins with an empty queue brings little enough, so much is held.
+    -- Busy period: where every window that ends in slot s and begins with an empty queue brings little enough, so much is unsent.
     -- `more` is what is still to come.
     pub busy :
         (s bound more : ℕ) →
@@ -133,14 +133,14 @@ module _
     unfolding sum bytes total
     busy zero bound more h =
         let none : bytes (queue 0) ≡ 0 = ap bytes (server .empty) in
-        omega (arith, held-bytes 0, h 0 0 refl none)
+        omega (arith, unsent-bytes 0, h 0 0 refl none)
     busy (suc s) bound more h =
         elim (decLe (bytes (queue (suc s))) 0) [
-          | yes l ↦ omega (arith, held-bytes (suc s), h (suc s) 0 (omega arith) (omega arith))
+          | yes l ↦ omega (arith, unsent-bytes (suc s), h (suc s) 0 (omega arith) (omega arith))
           | no n ↦
               omega (
                 arith,
-                held-bytes (suc s),
+                unsent-bytes (suc s),
                 left-bytes s,
                 server .serves s (omega arith),
                 busy s (bound + rate) (more + total sizeOf (arrived (suc s)) + extra (suc s))
@@ -148,7 +148,7 @@ module _
               )
         ]
 
-    -- of what is held in slot s, p at the head
+    -- of what is unsent in slot s, p at the head
     module _ (s : ℕ) (p r : List Waiting) (e : joined (queue s) (arrived s) ≡ p ++ r) where
       at-once : (g : Frame → ℕ) (n : ℕ) → bytes p ≤ room s → before gone g s + weight g p ≤ before gone g (suc (s + n))
       unfolding sum
@@ -171,7 +171,7 @@ module _
           server .serves s
           (omega (arith, ap bytes (rests l), bytes-append (kept (room s) p) r, kept-bytes (room s) p))
 
-    -- p, at the head of what is held in slot s, is gone n slots later.
+    -- p, at the head of what is unsent in slot s, is gone n slots later.
     pub drained :
         (g : Frame → ℕ) (n s : ℕ) (p r : List Waiting) →
         joined (queue s) (arrived s) ≡ p ++ r →
@@ -205,10 +205,10 @@ module _
               ))
         ]
 
-    pub held-most :
+    pub unsent-most :
         (burst : ℕ) → Bursts rate block extra queue arrived burst →
         (s : ℕ) → bytes (joined (queue s) (arrived s)) + block s ≤ burst
-    held-most burst rule s =
+    unsent-most burst rule s =
         omega (
           arith,
           busy s burst 0 (λ a d e none.
@@ -220,7 +220,7 @@ module _
               )),
         )
 
-    -- what is held in slot s, and what comes first, is no more than is sent by slot s + lag
+    -- what is unsent in slot s, and what comes first, is no more than is sent by slot s + lag
     pub passes :
         (lag : ℕ) →
         ((s : ℕ) → bytes (joined (queue s) (arrived s)) + block s + sum extra (suc (suc (s + lag))) ≤ rate * suc lag + sum extra (suc s)) →

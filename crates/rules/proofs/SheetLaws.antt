@@ -1,5 +1,4 @@
 -- Laws of the sheet: its length, its bytes, and that each field reads back what was written.
--- Assumes nothing.
 use mathlib.Core.Path.{_≡_, refl, subst, _∙_}
 use mathlib.Core.Logic.{_⊎_, inl, inr}
 use mathlib.Core.List.{List}
@@ -77,6 +76,10 @@ module _ (start : ℕ → ℕ) (run : ℕ → List ℕ) (step : (j : ℕ) → To
 pub sheet-longest : (n m : ℕ) → n ≤ wiresMost → m ≤ channelsMost → sheetLength n m ≤ sheetLongest
 unfolding figuresAt endAt sheetLength
 sheet-longest n m a b = omega arith
+
+pub sheet-longest-reached : sheetLength wiresMost channelsMost ≡ sheetLongest
+unfolding figuresAt endAt sheetLength
+sheet-longest-reached = refl
 
 pub sheet-shortest : (n m : ℕ) → 2 ≤ sheetLength n m
 unfolding figuresAt endAt sheetLength

@@ -1,5 +1,4 @@
 -- Asking a sheet, by its replies: what each test refuses, and what is known where all are passed.
--- Assumes nothing.
 use mathlib.Core.Path.{_≡_, refl, sym, _∙_}
 use mathlib.Core.Logic.{_⊎_, inl, inr, _≢_}
 use mathlib.Core.List.{List, [], _∷_}

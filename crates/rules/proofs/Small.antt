@@ -1,5 +1,4 @@
 -- Every reply is of small numbers: a refusal's number is 1 to 20 and its place below 128, and what is granted fits.
--- Assumes nothing.
 use mathlib.Core.Bool.{Bool, true, false}
 use mathlib.Core.List.{List, [], _∷_}
 use Prim.Native.Nat.{ℕ, zero, suc, _+_, _^_, _≤_, _<_}

@@ -4,7 +4,7 @@ use mathlib.Core.List.{List, [], _∷_, _++_, map}
 use Prim.Native.Nat.{ℕ, zero, suc, _+_, _*_, _≤_, _<_}
 use native.Mathlib.Decide.{decLe, ℕ-discrete}
 use native.Mathlib.Omega.{arith}
-use Rattle.rules.specs.Words.{sum, total}
+use Rattle.rules.specs.Words.{sum, total, gathered}
 
 -- ascending: what holds of a number where it holds of all below, holds
 pub ascend : (P : ℕ → Type 0) → ((w : ℕ) → ((v : ℕ) → v < w → P v) → P w) → (w : ℕ) → P w
@@ -82,6 +82,11 @@ module _ {A : Type 0} where
   unfolding total
   total-append g [] ys = omega arith
   total-append g (x ∷ xs) ys = omega (arith, total-append g xs ys)
+
+  pub total-gathered : (g : A → ℕ) (f : ℕ → List A) (n : ℕ) → total g (gathered f n) ≡ sum (λ i. total g (f i)) n
+  unfolding sum total gathered
+  total-gathered g f zero = refl
+  total-gathered g f (suc n) = omega (arith, total-append g (gathered f n) (f n), total-gathered g f n)
 
   pub total-same : (g h : A → ℕ) (xs : List A) → ((x : A) → g x ≡ h x) → total g xs ≡ total h xs
   unfolding total

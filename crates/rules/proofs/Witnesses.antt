@@ -9,15 +9,16 @@ use native.Mathlib.Omega.{arith}
 use lib.Dec.{eqb}
 use borrow.Author.Tests.{eq-eqb, ne-eqb}
 use Rattle.bits.specs.Field.{bit, field}
-use Rattle.rules.specs.Words.{sum, total, listed, only, has}
+use Rattle.rules.specs.Words.{sum, total, listed, gathered, only, has}
 use Rattle.rules.specs.Replies.{granted, refused, test, each}
 use Rattle.rules.specs.Price.{lastBytes, price, lastFrame, frames}
-use Rattle.rules.specs.Table.{View, viewOf, hyperOf, wiresOf, channelsOf, wireAt, codeOf, rateOf, propOf, roomOf, framingAt, payloadAt, periodAt, deadlineAt, hopsAt, routeAt, channelAt, endOf, fillingOf}
+use Rattle.rules.specs.Table.{View, viewOf, hyperOf, wiresOf, channelsOf, wireAt, codeOf, rateOf, propOf, roomOf, framingAt, payloadAt, periodAt, deadlineAt, hopsAt, routeAt, channelAt, endOf, fillingOf, after, source, lastWire}
 use Rattle.rules.specs.Reading.{headTests, wireTests, hopTests, recordTests, channelTests, fillingTests, readingTests}
 use Rattle.rules.specs.Bounds.{loadOf, load, along, jitter, shareOf, backlogAfter, delayAfter, delaysBelow, backlog, delay, endToEnd}
 use Rattle.rules.specs.Sheet.{figuresAt, endAt, sheetLength}
 use Rattle.rules.specs.Judgement.{loadTest, roomTest, deadlineTest, boundsTests, judge}
-use Rattle.rules.specs.Machine.{Frame, Releases, Keeps, message, ofChannel, bornIn, after, source, reaching, dueFrom, dueBelow, due, AnyOrder, none, more, here, sent, kept, bytes, Run, held, lastWire, goneBelow, delivered, Order, arrivals, step, played}
+use Rattle.rules.specs.Machine.{Frame, Releases, Keeps, message, ofChannel, bornIn, reaching, dueFrom, due, AnyOrder, none, more, here, sent, kept, bytes, Run, unsent, delivered, Order, arrivals, step, played}
+use Rattle.rules.specs.Cases.{caseA}
 use Rattle.rules.proofs.Sums.{total-append}
 use Rattle.rules.proofs.Orders.{same, any-order-complete}
 use Rattle.rules.proofs.Played.{played-run}
@@ -83,13 +84,10 @@ last-first-any slot w fs =
 
 -- what the computations below see through
 definitions : Unit {0}
-unfolding bit field sum total has test each lastBytes price hyperOf wiresOf channelsOf wireAt codeOf rateOf propOf roomOf framingAt payloadAt periodAt deadlineAt hopsAt routeAt channelAt endOf fillingOf headTests wireTests hopTests recordTests channelTests fillingTests readingTests loadOf load along jitter shareOf backlogAfter delayAfter delaysBelow backlog delay endToEnd figuresAt endAt sheetLength loadTest roomTest deadlineTest boundsTests judge listed lastFrame frames message ofChannel bornIn after source reaching dueFrom dueBelow due sent kept bytes lastWire goneBelow delivered arrivals step played periodic backwards
+unfolding bit field sum total has test each lastBytes price hyperOf wiresOf channelsOf wireAt codeOf rateOf propOf roomOf framingAt payloadAt periodAt deadlineAt hopsAt routeAt channelAt endOf fillingOf headTests wireTests hopTests recordTests channelTests fillingTests readingTests loadOf load along jitter shareOf backlogAfter delayAfter delaysBelow backlog delay endToEnd figuresAt endAt sheetLength loadTest roomTest deadlineTest boundsTests judge listed gathered lastFrame frames message ofChannel bornIn after source reaching dueFrom due sent kept bytes lastWire delivered arrivals step played periodic backwards
 definitions = tt
 
 -- Case A: wire 0 holds exactly its backlog, and the message takes exactly its end-to-end delay.
-abbrev pub caseA : List ℕ
-caseA = 0x00 ∷ 0x03 ∷ 0x48 ∷ 0x02 ∷ 0x02 ∷ 0x00 ∷ 0xe0 ∷ 0x00 ∷ 0x0a ∷ 0x80 ∷ 0x00 ∷ 0x10 ∷ 0x00 ∷ 0x05 ∷ 0x40 ∷ 0x00 ∷ 0x05 ∷ 0xb1 ∷ 0x00 ∷ []
-
 abbrev pub runA : Run (viewOf caseA) (periodic (viewOf caseA))
 runA = played-run (viewOf caseA) (periodic (viewOf caseA)) in-turn in-turn-any
 
@@ -97,9 +95,9 @@ pub a-accepted : judge caseA 12 ≡ granted (12 ∷ [])
 unfolding definitions
 a-accepted = refl
 
-pub a-held : held runA 0 0 ≡ 84
+pub a-unsent : unsent runA 0 0 ≡ 84
 unfolding definitions
-a-held = refl
+a-unsent = refl
 
 pub a-message : message (viewOf caseA) (periodic (viewOf caseA)) 0 0 ≡ record { channel = 0; born = 0; size = 84 } ∷ []
 unfolding definitions
@@ -115,7 +113,8 @@ a-there = refl
 
 -- A later wire, with a jitter that counts: H 4; two wires of rate 100; channel 0 payload 1, period 2, route 0, 1; channel 1
 -- payload 71, period 4, route 0. Channel 1's frame goes first and holds channel 0's first back until its second is close
--- behind, and overtakes it: wire 1 holds exactly its backlog, and the first message takes exactly its end-to-end delay.
+-- behind; at wire 1 the second goes first. Wire 1 holds exactly its backlog, and the first message takes exactly its
+-- end-to-end delay.
 abbrev pub later : List ℕ
 later = 0x00 ∷ 0x00 ∷ 0x04 ∷ 0x04 ∷ 0x05 ∷ 0x00 ∷ 0x00 ∷ 0x00 ∷ 0x19 ∷ 0x30 ∷ 0x00 ∷ 0x00 ∷ 0x01 ∷ 0x50 ∷ 0x00 ∷ 0x01 ∷ 0x00 ∷ 0x00 ∷ 0x02 ∷ 0x00 ∷ 0x00 ∷ 0x05 ∷ 0x20 ∷ 0x01 ∷ 0x00 ∷ 0x23 ∷ 0x80 ∷ 0x00 ∷ 0x02 ∷ 0x00 ∷ 0x00 ∷ 0x01 ∷ 0x88 ∷ 0x00 ∷ []
 
@@ -130,9 +129,9 @@ pub later-figures : (backlog (viewOf later) 1 ≡ 168) × (endToEnd (viewOf late
 unfolding definitions
 later-figures = (refl, refl)
 
-pub later-held : held runLater 1 3 ≡ 168
+pub later-unsent : unsent runLater 1 3 ≡ 168
 unfolding definitions
-later-held = refl
+later-unsent = refl
 
 pub later-message : message (viewOf later) (periodic (viewOf later)) 0 0 ≡ record { channel = 0; born = 0; size = 84 } ∷ []
 unfolding definitions
@@ -180,3 +179,11 @@ over =
 pub one-over : judge over 12 ≡ refused 12 0
 unfolding over definitions
 one-over = refl
+
+-- Zero channels: H 1, one wire.
+pub none-listed : List ℕ
+none-listed = 0x00 ∷ 0x00 ∷ 0x01 ∷ 0x02 ∷ 0x00 ∷ 0x00 ∷ 0x00 ∷ 0x00 ∷ 0x0a ∷ 0x80 ∷ []
+
+pub zero-channels : judge none-listed 12 ≡ refused 4 0
+unfolding none-listed definitions
+zero-channels = refl

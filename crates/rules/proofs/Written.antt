@@ -1,5 +1,4 @@
 -- A sheet as written from arrays: only the figures below the counts matter, and those of a view make the view's sheet.
--- Assumes nothing.
 use mathlib.Core.Path.{_≡_, refl, ap, _∙_}
 use mathlib.Core.List.{List, _++_}
 use Prim.Native.Nat.{ℕ, zero, suc, _-_, _<_}

@@ -26,7 +26,7 @@ loadOf t w k = only (on t w k) (cost t k * times t k)
 unfoldable pub load : View → ℕ → ℕ
 load t w = sum (loadOf t w) (t .channels)
 
--- the sum of f over the wires of a route before w
+-- the sum of f over the wires of a route before w (all of it where w is not on it)
 unfoldable pub along : (ℕ → ℕ) → List ℕ → ℕ → ℕ
 along f [] w = 0
 along f (v ∷ vs) w = cond (eqb v w) 0 (f v + along f vs w)

@@ -1,4 +1,5 @@
--- The marked cases: one table of questions with the figures that document 01 gives, and one evaluator of the definitions.
+-- The marked cases: one table of questions with document 01's figures and those that follow; what it leaves open (rooms and
+-- deadlines of cases B and C) is chosen here. And one evaluator of the definitions.
 use mathlib.Core.Path.{_≡_}
 use mathlib.Core.List.{List, [], _∷_}
 use Prim.Native.Nat.{ℕ}
@@ -14,28 +15,28 @@ pub data Question : Type 0 where
   pricing : ℕ → ℕ → Question
   judging : List ℕ → ℕ → Question
 
--- The reply, each wire's load, backlog and delay, each channel's end-to-end delay, and the lent bytes afterwards.
+-- The reply, each wire's load, backlog and delay, each channel's end-to-end delay, and the lent buffer afterwards.
 pub record Figures : Type 0 where
   pub reply : Reply
   pub loads : List ℕ
   pub backlogs : List ℕ
   pub delays : List ℕ
   pub ends : List ℕ
-  pub lent : List ℕ
+  pub buffer : List ℕ
 
 unfoldable pub figuresOf : Reply → View → List ℕ → Figures
-figuresOf reply t lent =
+figuresOf reply t bytes =
     record {
       reply = reply;
       loads = listed (load t) (t .wires);
       backlogs = listed (backlog t) (t .wires);
       delays = listed (delay t) (t .wires);
       ends = listed (endToEnd t) (t .channels);
-      lent = lent;
+      buffer = bytes;
     }
 
 abbrev pub onlyReply : Reply → Figures
-onlyReply reply = record { reply = reply; loads = []; backlogs = []; delays = []; ends = []; lent = [] }
+onlyReply reply = record { reply = reply; loads = []; backlogs = []; delays = []; ends = []; buffer = [] }
 
 unfoldable pub evaluate : Question → Figures
 evaluate (pricing framing payload) = onlyReply (askPrice framing payload)
@@ -49,6 +50,10 @@ abbrev pub priced : ℕ → ℕ → ℕ → Case
 priced framing payload bytes =
     record { question = pricing framing payload; figures = onlyReply (granted (bytes ∷ [])) }
 
+-- Case A's table, to the byte.
+abbrev pub caseA : List ℕ
+caseA = 0x00 ∷ 0x03 ∷ 0x48 ∷ 0x02 ∷ 0x02 ∷ 0x00 ∷ 0xe0 ∷ 0x00 ∷ 0x0a ∷ 0x80 ∷ 0x00 ∷ 0x10 ∷ 0x00 ∷ 0x05 ∷ 0x40 ∷ 0x00 ∷ 0x05 ∷ 0xb1 ∷ 0x00 ∷ []
+
 abbrev pub cases : List Case
 cases =
     priced 0 1 84
@@ -60,9 +65,9 @@ cases =
     ∷ priced 1 10 84
     ∷ priced 1 11 85
     ∷ priced 1 1465 1622
-    -- Case A, to the byte.
+    -- Case A.
     ∷ (record {
-      question = judging (0x00 ∷ 0x03 ∷ 0x48 ∷ 0x02 ∷ 0x02 ∷ 0x00 ∷ 0xe0 ∷ 0x00 ∷ 0x0a ∷ 0x80 ∷ 0x00 ∷ 0x10 ∷ 0x00 ∷ 0x05 ∷ 0x40 ∷ 0x00 ∷ 0x05 ∷ 0xb1 ∷ 0x00 ∷ []) 12;
+      question = judging caseA 12;
       figures =
           record {
             reply = granted (12 ∷ []);
@@ -70,7 +75,7 @@ cases =
             backlogs = 84 ∷ [];
             delays = 84 ∷ [];
             ends = 91 ∷ [];
-            lent = 0x02 ∷ 0x02 ∷ 0x00 ∷ 0x00 ∷ 0xa8 ∷ 0x00 ∷ 0x00 ∷ 0xa8 ∷ 0x00 ∷ 0x00 ∷ 0x0b ∷ 0x60 ∷ [];
+            buffer = 0x02 ∷ 0x02 ∷ 0x00 ∷ 0x00 ∷ 0xa8 ∷ 0x00 ∷ 0x00 ∷ 0xa8 ∷ 0x00 ∷ 0x00 ∷ 0x0b ∷ 0x60 ∷ [];
           };
     })
     -- Case A with deadline 90.
@@ -83,7 +88,7 @@ cases =
             backlogs = 84 ∷ [];
             delays = 84 ∷ [];
             ends = 91 ∷ [];
-            lent = 0xff ∷ 0xff ∷ 0xff ∷ 0xff ∷ 0xff ∷ 0xff ∷ 0xff ∷ 0xff ∷ 0xff ∷ 0xff ∷ 0xff ∷ 0xff ∷ [];
+            buffer = 0xff ∷ 0xff ∷ 0xff ∷ 0xff ∷ 0xff ∷ 0xff ∷ 0xff ∷ 0xff ∷ 0xff ∷ 0xff ∷ 0xff ∷ 0xff ∷ [];
           };
     })
     -- Case A with room 83.
@@ -96,7 +101,7 @@ cases =
             backlogs = 84 ∷ [];
             delays = 84 ∷ [];
             ends = 91 ∷ [];
-            lent = 0xff ∷ 0xff ∷ 0xff ∷ 0xff ∷ 0xff ∷ 0xff ∷ 0xff ∷ 0xff ∷ 0xff ∷ 0xff ∷ 0xff ∷ 0xff ∷ [];
+            buffer = 0xff ∷ 0xff ∷ 0xff ∷ 0xff ∷ 0xff ∷ 0xff ∷ 0xff ∷ 0xff ∷ 0xff ∷ 0xff ∷ 0xff ∷ 0xff ∷ [];
           };
     })
     -- Case A with payload 39.
@@ -109,7 +114,7 @@ cases =
             backlogs = 85 ∷ [];
             delays = 85 ∷ [];
             ends = 92 ∷ [];
-            lent = 0xff ∷ 0xff ∷ 0xff ∷ 0xff ∷ 0xff ∷ 0xff ∷ 0xff ∷ 0xff ∷ 0xff ∷ 0xff ∷ 0xff ∷ 0xff ∷ [];
+            buffer = 0xff ∷ 0xff ∷ 0xff ∷ 0xff ∷ 0xff ∷ 0xff ∷ 0xff ∷ 0xff ∷ 0xff ∷ 0xff ∷ 0xff ∷ 0xff ∷ [];
           };
     })
     -- Case B.
@@ -122,7 +127,7 @@ cases =
             backlogs = 252 ∷ [];
             delays = 252 ∷ [];
             ends = 252 ∷ 252 ∷ 252 ∷ [];
-            lent = 0x02 ∷ 0x06 ∷ 0x00 ∷ 0x01 ∷ 0xf8 ∷ 0x00 ∷ 0x01 ∷ 0xf8 ∷ 0x00 ∷ 0x00 ∷ 0x1f ∷ 0x80 ∷ 0x00 ∷ 0x01 ∷ 0xf8 ∷ 0x00 ∷ 0x00 ∷ 0x1f ∷ 0x80 ∷ 0xff ∷ [];
+            buffer = 0x02 ∷ 0x06 ∷ 0x00 ∷ 0x01 ∷ 0xf8 ∷ 0x00 ∷ 0x01 ∷ 0xf8 ∷ 0x00 ∷ 0x00 ∷ 0x1f ∷ 0x80 ∷ 0x00 ∷ 0x01 ∷ 0xf8 ∷ 0x00 ∷ 0x00 ∷ 0x1f ∷ 0x80 ∷ 0xff ∷ [];
           };
     })
     -- Case C.
@@ -135,7 +140,7 @@ cases =
             backlogs = 168 ∷ 285 ∷ [];
             delays = 168 ∷ 285 ∷ [];
             ends = 467 ∷ 467 ∷ 292 ∷ [];
-            lent = 0x04 ∷ 0x06 ∷ 0x00 ∷ 0x01 ∷ 0x50 ∷ 0x00 ∷ 0x01 ∷ 0x50 ∷ 0x00 ∷ 0x02 ∷ 0x3a ∷ 0x00 ∷ 0x02 ∷ 0x3a ∷ 0x00 ∷ 0x00 ∷ 0x3a ∷ 0x60 ∷ 0x00 ∷ 0x03 ∷ 0xa6 ∷ 0x00 ∷ 0x00 ∷ 0x24 ∷ 0x80 ∷ 0xff ∷ 0xff ∷ [];
+            buffer = 0x04 ∷ 0x06 ∷ 0x00 ∷ 0x01 ∷ 0x50 ∷ 0x00 ∷ 0x01 ∷ 0x50 ∷ 0x00 ∷ 0x02 ∷ 0x3a ∷ 0x00 ∷ 0x02 ∷ 0x3a ∷ 0x00 ∷ 0x00 ∷ 0x3a ∷ 0x60 ∷ 0x00 ∷ 0x03 ∷ 0xa6 ∷ 0x00 ∷ 0x00 ∷ 0x24 ∷ 0x80 ∷ 0xff ∷ 0xff ∷ [];
           };
     })
     -- Case C with wire 1 at rate 10.
@@ -148,7 +153,7 @@ cases =
             backlogs = 168 ∷ 285 ∷ [];
             delays = 168 ∷ 29 ∷ [];
             ends = 211 ∷ 211 ∷ 36 ∷ [];
-            lent = 0x04 ∷ 0x06 ∷ 0x00 ∷ 0x01 ∷ 0x50 ∷ 0x00 ∷ 0x01 ∷ 0x50 ∷ 0x00 ∷ 0x02 ∷ 0x3a ∷ 0x00 ∷ 0x00 ∷ 0x3a ∷ 0x00 ∷ 0x00 ∷ 0x1a ∷ 0x60 ∷ 0x00 ∷ 0x01 ∷ 0xa6 ∷ 0x00 ∷ 0x00 ∷ 0x04 ∷ 0x80 ∷ 0xff ∷ 0xff ∷ [];
+            buffer = 0x04 ∷ 0x06 ∷ 0x00 ∷ 0x01 ∷ 0x50 ∷ 0x00 ∷ 0x01 ∷ 0x50 ∷ 0x00 ∷ 0x02 ∷ 0x3a ∷ 0x00 ∷ 0x00 ∷ 0x3a ∷ 0x00 ∷ 0x00 ∷ 0x1a ∷ 0x60 ∷ 0x00 ∷ 0x01 ∷ 0xa6 ∷ 0x00 ∷ 0x00 ∷ 0x04 ∷ 0x80 ∷ 0xff ∷ 0xff ∷ [];
           };
     })
     ∷ []
@@ -161,7 +166,7 @@ Same a b =
     × (a .backlogs ≡ b .backlogs)
     × (a .delays ≡ b .delays)
     × (a .ends ≡ b .ends)
-    × (a .lent ≡ b .lent)
+    × (a .buffer ≡ b .buffer)
 
 -- What the definitions say of each question is what stands beside it.
 infixr 5 _and_

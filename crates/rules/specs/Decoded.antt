@@ -1,4 +1,4 @@
--- A table as read: the view's numbers in arrays, for later steps to read no bit again.
+-- A table as read: the view's numbers in arrays.
 use mathlib.Core.List.{List}
 use Prim.Native.Nat.{ℕ, _*_, _/_, _%_}
 use lib.ListN.{length, getD, replicate}
@@ -50,7 +50,7 @@ noTable =
       route = replicate routesMost 0;
     }
 
--- what reading leaves: on a refusal every array is all 0
+-- what reading leaves: on a refusal all is 0
 unfoldable pub tableLeft : Reply → View → Table
 tableLeft (granted values) t = tableOf t
 tableLeft (refused number place) t = noTable

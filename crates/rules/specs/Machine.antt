@@ -5,9 +5,9 @@ use mathlib.Core.List.{List, [], _∷_, _++_, map}
 use Prim.Native.Nat.{ℕ, zero, suc, _+_, _-_, _≤_, _<_}
 use lib.ListN.{getD, replicate}
 use lib.Dec.{leb, eqb}
-use Rattle.rules.specs.Words.{total, listed}
+use Rattle.rules.specs.Words.{total, listed, gathered}
 use Rattle.rules.specs.Price.{frames}
-use Rattle.rules.specs.Table.{View}
+use Rattle.rules.specs.Table.{View, Source, nowhere, release, wire, source, lastWire}
 
 -- A frame, with its message: the channel, and the slot of its release.
 pub record Frame : Type 0 where
@@ -27,7 +27,7 @@ whole f = record { frame = f; left = f .size }
 abbrev pub Releases : Type 0
 Releases = ℕ → ℕ → ℕ
 
--- Messages may carry 1 byte up to the declared payload; each channel's are at least its period apart.
+-- Messages may carry 1 byte up to the declared payload. Demand 3: each channel's are at least its period apart.
 pub record Keeps (t : View) (released : Releases) : Type 0 where
   pub declared : (k r : ℕ) → k < t .channels → released k r ≤ t .payload k
   pub apart : (k r later : ℕ) → k < t .channels → r < later → 0 < released k r → 0 < released k later → r + t .period k ≤ later
@@ -47,26 +47,12 @@ unfoldable pub bornIn : ℕ → List Frame → List Frame
 bornIn r [] = []
 bornIn r (f ∷ fs) = cond (eqb (f .born) r) (f ∷ bornIn r fs) (bornIn r fs)
 
--- Where a channel's frames come to wire w from: nowhere, their release, or the wire before it on the route.
-pub data Source : Type 0 where
-  nowhere : Source
-  release : Source
-  wire : ℕ → Source
-
-unfoldable pub after : ℕ → List ℕ → ℕ → Source
-after v [] w = nowhere
-after v (x ∷ xs) w = cond (eqb x w) (wire v) (after x xs w)
-
-unfoldable pub source : List ℕ → ℕ → Source
-source [] w = nowhere
-source (x ∷ xs) w = cond (eqb x w) release (after x xs w)
-
 -- Frames whose last byte left a wire, for each wire and slot.
 abbrev pub Gone : Type 0
 Gone = ℕ → ℕ → List Frame
 
 -- A frame whose last byte leaves in slot t reaches the next wire, or the destination, whole, in slot t + 1 + propagation:
--- those that reach it in this slot
+-- those that reach it from wire v in this slot
 unfoldable pub reaching : View → Gone → ℕ → ℕ → List Frame
 reaching t gone v slot = cond (leb (1 + t .prop v) slot) (gone v (slot - (1 + t .prop v))) []
 
@@ -77,13 +63,8 @@ dueFrom nowhere t released gone slot k = []
 dueFrom release t released gone slot k = message t released k slot
 dueFrom (wire v) t released gone slot k = ofChannel k (reaching t gone v slot)
 
-unfoldable pub dueBelow : View → Releases → Gone → ℕ → ℕ → ℕ → List Frame
-dueBelow t released gone w slot zero = []
-dueBelow t released gone w slot (suc k) =
-    dueBelow t released gone w slot k ++ dueFrom (source (t .route k) w) t released gone slot k
-
 unfoldable pub due : View → Releases → Gone → ℕ → ℕ → List Frame
-due t released gone w slot = dueBelow t released gone w slot (t .channels)
+due t released gone w slot = gathered (λ k. dueFrom (source (t .route k) w) t released gone slot k) (t .channels)
 
 -- In any order: zs holds x and the frames of ys, x put in at some place
 pub data Put (x : Frame) : List Frame → List Frame → Type 0 where
@@ -112,6 +93,10 @@ bytes q = total (λ (x : Waiting). x .left) q
 abbrev pub joined : List Waiting → List Frame → List Waiting
 joined queue arrivals = queue ++ map whole arrivals
 
+-- the bytes that wire w may send in a slot
+abbrev pub sending : View → ℕ → ℕ → ℕ
+sending t w slot = t .rate w
+
 -- A run, for each wire and slot: the queue before the slot, what arrives, what is gone.
 pub record Run (t : View) (released : Releases) : Type 0 where
   pub queue : ℕ → ℕ → List Waiting
@@ -119,28 +104,17 @@ pub record Run (t : View) (released : Releases) : Type 0 where
   pub gone : Gone
   pub empty : (w : ℕ) → w < t .wires → queue w 0 ≡ []
   pub any-order : (w slot : ℕ) → w < t .wires → AnyOrder (due t released gone w slot) (arrived w slot)
-  pub sends : (w slot : ℕ) → w < t .wires → gone w slot ≡ sent (t .rate w) (joined (queue w slot) (arrived w slot))
-  pub keeps : (w slot : ℕ) → w < t .wires → queue w (suc slot) ≡ kept (t .rate w) (joined (queue w slot) (arrived w slot))
+  pub sends : (w slot : ℕ) → w < t .wires → gone w slot ≡ sent (sending t w slot) (joined (queue w slot) (arrived w slot))
+  pub keeps : (w slot : ℕ) → w < t .wires → queue w (suc slot) ≡ kept (sending t w slot) (joined (queue w slot) (arrived w slot))
 
 -- Backlog is counted after arrivals and before sending.
-abbrev pub held : {t : View} {released : Releases} → Run t released → ℕ → ℕ → ℕ
-held run w slot = bytes (joined (run .queue w slot) (run .arrived w slot))
+abbrev pub unsent : {t : View} {released : Releases} → Run t released → ℕ → ℕ → ℕ
+unsent run w slot = bytes (joined (run .queue w slot) (run .arrived w slot))
 
--- the wire that a route ends with
-unfoldable pub lastWire : List ℕ → ℕ
-lastWire [] = 0
-lastWire (x ∷ []) = x
-lastWire (x ∷ y ∷ ys) = lastWire (y ∷ ys)
-
-unfoldable pub goneBelow : Gone → ℕ → ℕ → List Frame
-goneBelow gone v zero = []
-goneBelow gone v (suc slot) = goneBelow gone v slot ++ gone v slot
-
--- The frames of channel k's message of slot r that have reached the destination by a slot: those that left the last wire,
--- 1 + propagation slots before or earlier.
+-- The frames of channel k's message of slot r that have reached the destination by a slot.
 unfoldable pub delivered : View → Gone → ℕ → ℕ → ℕ → List Frame
 delivered t gone k r slot =
-    bornIn r (ofChannel k (goneBelow gone (lastWire (t .route k)) (slot - t .prop (lastWire (t .route k)))))
+    bornIn r (ofChannel k (gathered (reaching t gone (lastWire (t .route k))) (suc slot)))
 
 -- The step function. An adversary orders what is due, for each slot and wire.
 abbrev pub Order : Type 0
@@ -165,8 +139,8 @@ unfoldable pub step : View → Releases → Order → ℕ → State → State
 step t released order slot state =
     let full = listed (λ w. joined (queueIn state w) (arrivals t released order slot state w)) (t .wires) in
     record {
-      queues = listed (λ w. kept (t .rate w) (getD full w [])) (t .wires);
-      past = listed (λ w. sent (t .rate w) (getD full w [])) (t .wires) ∷ state .past;
+      queues = listed (λ w. kept (sending t w slot) (getD full w [])) (t .wires);
+      past = listed (λ w. sent (sending t w slot) (getD full w [])) (t .wires) ∷ state .past;
     }
 
 unfoldable pub played : View → Releases → Order → ℕ → State

@@ -102,7 +102,7 @@ endBits = 28
 abbrev pub sheetLongest : ℕ
 sheetLongest = 834
 
--- All of them, in the order above.
+-- All but the rates, in the order above.
 abbrev pub numbers : List ℕ
 numbers =
     slotNs ∷ hyperBits ∷ hyperMost ∷ wiresBits ∷ wiresMost ∷ channelsBits ∷ channelsMost ∷ headBits ∷ rateBits ∷ propBits ∷ roomBits ∷ wireBits ∷ framingBits ∷ payloadBits ∷ payloadMost ∷ periodBits ∷ deadlineBits ∷ hopsBits ∷ hopsMost ∷ routesMost ∷ fixedBits ∷ hopBits ∷ tableLongest ∷ sheetHeadBits ∷ backlogBits ∷ delayBits ∷ figuresBits ∷ endBits ∷ sheetLongest ∷ []

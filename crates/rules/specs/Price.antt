@@ -22,16 +22,15 @@ noRow = record { most = 0; overhead = 0; least = 0 }
 abbrev pub rowOf : ℕ → Row
 rowOf framing = getD rows framing noRow
 
--- full frames of 1,538 bytes
+-- Bytes on the wire of a full frame, and of the smallest.
 abbrev pub fullFrame : ℕ
 fullFrame = 1538
 
--- the smallest frame, of 84
 abbrev pub smallFrame : ℕ
 smallFrame = 84
 
--- A remainder of at least the least data adds one frame of remainder + overhead; a smaller nonzero remainder adds one
--- of 84; a zero remainder adds nothing.
+-- A remainder of at least the least data adds one frame of remainder + overhead; a smaller nonzero remainder adds the
+-- smallest; a zero remainder adds nothing.
 unfoldable pub lastBytes : Row → ℕ → ℕ
 lastBytes row rest = cond (eqb rest 0) 0 (cond (leb (row .least) rest) (rest + row .overhead) smallFrame)
 

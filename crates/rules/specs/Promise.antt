@@ -2,23 +2,24 @@
 use mathlib.Core.Path.{_≡_}
 use mathlib.Core.List.{List, [], _∷_}
 use Prim.Native.Nat.{ℕ, _+_, _≤_, _<_}
-use lib.ListN.{getD, take}
+use lib.ListN.{take}
 use Rattle.rules.specs.Replies.{Reply, granted, refused}
 use Rattle.rules.specs.Table.{viewOf}
 use Rattle.rules.specs.Sheet.{askWire, askChannel}
 use Rattle.rules.specs.Judgement.{judge, buffer}
-use Rattle.rules.specs.Machine.{Releases, Keeps, Run, AnyOrder, message, delivered, held}
+use Rattle.rules.specs.Machine.{Releases, Keeps, Run, AnyOrder, message, delivered, unsent}
 
 -- the reply is granted, and P holds of its first value
 abbrev pub Granted : Reply → (ℕ → Type 0) → Type 0
-Granted (granted values) P = P (getD values 0 0)
+Granted (granted (value ∷ more)) P = P value
+Granted (granted []) P = ⊥
 Granted (refused number place) P = ⊥
 
 -- Of a table s, its sheet, what is released and a run:
 pub record Promised (s sheet : List ℕ) (released : Releases) (run : Run (viewOf s) released) : Type 0 where
   -- asking the sheet for a wire is granted, and no wire ever holds more bytes, after arrivals and before sending, than the
   -- backlog that it replies;
-  pub backlogs : (w : ℕ) → w < viewOf s .wires → Granted (askWire sheet w) (λ backlog. (slot : ℕ) → held run w slot ≤ backlog)
+  pub backlogs : (w : ℕ) → w < viewOf s .wires → Granted (askWire sheet w) (λ backlog. (slot : ℕ) → unsent run w slot ≤ backlog)
   -- asking it for a channel is granted; the delay that it replies is within the channel's deadline; and from that many slots
   -- after its release on, what has reached the destination of a message is all its frames.
   pub delays :

@@ -1,4 +1,4 @@
--- Reading a table: tests 1 to 11, in this order. `rest` is what follows where all of a test's items pass.
+-- Reading a table: tests 1 to 11, in this order. `rest` is the reply where every test here passes.
 use mathlib.Core.Bool.{Bool, _&&_}
 use mathlib.Core.List.{List, [], _∷_}
 use Prim.Native.Nat.{ℕ, suc, _+_, _*_, _%_}

@@ -26,7 +26,7 @@ unfoldable pub each : (ℕ → Reply → Reply) → ℕ → ℕ → Reply → Re
 each tests i zero rest = rest
 each tests i (suc left) rest = tests i (each tests (suc i) left rest)
 
--- Of each answer's cases, this document's reply.
+-- Of each answer's cases, document 01's reply.
 abbrev pub pricingReply : Pricing → Reply
 pricingReply (pricing.Price bytes) = granted (bytes ∷ [])
 pricingReply (pricing.Refused number place) = refused number place

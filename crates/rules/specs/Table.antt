@@ -1,7 +1,9 @@
 -- The table, bit by bit: where each field stands, and the view of a byte string as wires and channels.
+use mathlib.Core.Bool.{cond}
 use mathlib.Core.List.{List, [], _∷_}
 use Prim.Native.Nat.{ℕ, zero, suc, _+_, _-_, _*_}
 use lib.ListN.{length, getD}
+use lib.Dec.{eqb}
 use Rattle.bits.specs.Field.{field}
 use Rattle.rules.specs.Numbers.{rates, hyperBits, wiresBits, channelsBits, headBits, rateBits, propBits, roomBits, wireBits, framingBits, payloadBits, periodBits, deadlineBits, hopsBits, fixedBits, hopBits}
 
@@ -95,3 +97,24 @@ viewOf s =
       deadline = λ c. deadlineAt s (channelAt s c);
       route = λ c. routeAt s (channelAt s c + fixedBits) (hopsAt s (channelAt s c));
     }
+
+-- Where a channel's frames come to wire w from: nowhere, their release, or the wire before it on the route.
+pub data Source : Type 0 where
+  nowhere : Source
+  release : Source
+  wire : ℕ → Source
+
+-- the same on the wires that follow v
+unfoldable pub after : ℕ → List ℕ → ℕ → Source
+after v [] w = nowhere
+after v (x ∷ xs) w = cond (eqb x w) (wire v) (after x xs w)
+
+unfoldable pub source : List ℕ → ℕ → Source
+source [] w = nowhere
+source (x ∷ xs) w = cond (eqb x w) release (after x xs w)
+
+-- the wire that a route ends with
+unfoldable pub lastWire : List ℕ → ℕ
+lastWire [] = 0
+lastWire (x ∷ []) = x
+lastWire (x ∷ y ∷ ys) = lastWire (y ∷ ys)

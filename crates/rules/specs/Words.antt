@@ -19,6 +19,11 @@ unfoldable pub listed : {A : Type 0} → (ℕ → A) → ℕ → List A
 listed f zero = []
 listed f (suc n) = listed f n ++ (f n ∷ [])
 
+-- f 0 ++ f 1 ++ .. ++ f (n - 1)
+unfoldable pub gathered : {A : Type 0} → (ℕ → List A) → ℕ → List A
+gathered f zero = []
+gathered f (suc n) = gathered f n ++ f n
+
 -- a / b, rounded up
 abbrev pub up : ℕ → ℕ → ℕ
 up a b = (a + (b - 1)) / b

@@ -9,7 +9,7 @@ pub struct Row {
     pub least: u64,
 }
 
-// Asking a price: the price in bytes, or a refusal's number and place. The refusals below are the same.
+// Asking a price: the price in bytes. A refusal holds its number and place in every answer.
 pub enum Pricing {
     Price(u64),
     Refused(u64, u64),
