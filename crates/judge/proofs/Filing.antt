@@ -83,20 +83,20 @@ apart x w a b p q o e = o (omega arith)
 inside-stretch : (x a : ℕ) → x < wiresMost → a < channelsMost → channelsMost * x + a < filedMost
 inside-stretch x a p q = omega arith
 
-module _ (inside : ℕ → ℕ → Bool) (part : ℕ → ℕ) (c : ℕ) where
-  pub filed-none : (list counts loads : List ℕ) → list ≡ replicate filedMost 0 → counts ≡ replicate wiresMost 0 → loads ≡ replicate wiresMost 0 → Filing inside part 0 (λ w. false) list counts loads
-  unfolding sum
-  filed-none list counts loads p q r =
-      record {
-        list-length = ap length p ∙ length-replicate {A = ℕ} filedMost 0;
-        counts-length = ap length q ∙ length-replicate {A = ℕ} wiresMost 0;
-        loads-length = ap length r ∙ length-replicate {A = ℕ} wiresMost 0;
-        counted = λ w l. ap (λ (a : List ℕ). getD a w 0) q ∙ getD-replicate {A = ℕ} wiresMost w 0 0 l;
-        loaded = λ w l. ap (λ (a : List ℕ). getD a w 0) r ∙ getD-replicate {A = ℕ} wiresMost w 0 0 l;
-        below = λ w k l h e. absurd (omega arith);
-        here = λ w l e. absurd (never e refl);
-      }
+pub filed-none : (inside : ℕ → ℕ → Bool) (part : ℕ → ℕ) → Filing inside part 0 (λ w. false) (replicate filedMost 0) (replicate wiresMost 0) (replicate wiresMost 0)
+unfolding sum
+filed-none inside part =
+    record {
+      list-length = length-replicate {A = ℕ} filedMost 0;
+      counts-length = length-replicate {A = ℕ} wiresMost 0;
+      loads-length = length-replicate {A = ℕ} wiresMost 0;
+      counted = λ w l. getD-replicate {A = ℕ} wiresMost w 0 0 l;
+      loaded = λ w l. getD-replicate {A = ℕ} wiresMost w 0 0 l;
+      below = λ w k l h e. absurd (omega arith);
+      here = λ w l e. absurd (never e refl);
+    }
 
+module _ (inside : ℕ → ℕ → Bool) (part : ℕ → ℕ) (c : ℕ) where
   module _ (list counts loads : List ℕ) (done : ℕ → Bool) (filing : Filing inside part c done list counts loads) where
     -- where the next is filed
     pub next-place : (x : ℕ) → x < wiresMost → done x ≡ false → getD counts x 0 ≡ count (inside x) c

@@ -1,17 +1,17 @@
 -- Tests 12 and 14 as one test of figures against limits, and the three tests in their order.
-use mathlib.Core.Path.{_≡_, refl, sym, ap, ap₂, _∙_}
+use mathlib.Core.Path.{_≡_, refl, ap, ap₂, _∙_}
 use mathlib.Core.List.{List, []}
 use Prim.Native.Nat.{ℕ, zero, suc, _+_, _*_, _^_, _≤_, _<_}
 use native.Mathlib.Nat.{mul-le-mul}
 use native.Mathlib.Omega.{arith}
-use lib.ListN.{length, getD}
+use lib.ListN.{getD}
 use lib.Dec.{leb}
 use Rattle.bits.proofs.Laws.{field-lt}
 use Rattle.rules.specs.declared.Reading.{Reading}
 use Rattle.rules.specs.declared.Reading.the-variants as answers
 use Rattle.rules.specs.declared.Table.{Table}
-use Rattle.rules.specs.Numbers.{wiresMost, channelsMost, hyperMost}
-use Rattle.rules.specs.Replies.{Reply, granted, refused, test, each}
+use Rattle.rules.specs.Numbers.{wiresMost, channelsMost}
+use Rattle.rules.specs.Replies.{Reply, granted, test, each}
 use Rattle.rules.specs.Table.{View, viewOf, deadlineAt}
 use Rattle.rules.specs.Bounds.{on, loadOf, load, endToEnd}
 use Rattle.rules.specs.Judgement.{loadTest, roomTest, deadlineTest, boundsTests}
@@ -19,7 +19,7 @@ use Rattle.rules.specs.Decoded.{column}
 use Rattle.rules.proofs.Sound.{Sound}
 use Rattle.rules.proofs.Tests.{Stops, gate-granted, le-gate, all-gate}
 use Rattle.table.specs.Stages.{after, IfRead}
-use Rattle.judge.specs.Filed.{tally}
+use Rattle.table.proofs.Answers.{refused-by, passed-by}
 use Rattle.judge.specs.Figures.{part, FiledBelow, limitTest}
 use Rattle.judge.proofs.Filing.{next-load}
 use Rattle.judge.proofs.Told.{Told, entry-at}
@@ -84,32 +84,23 @@ deadline-lt s k = field-lt s _ 24
 
 -- ---- the three tests in their order
 
-pub read-of : (P : Type 0) (a : Reading) → a ≡ answers.Read → IfRead a P → P
-read-of P a e h = rw e at h
-
 pub if-read : (P : Type 0) (a : Reading) → P → IfRead a P
 if-read P answers.Read p = p
 if-read P (answers.Refused n q) p = tt
 
-refused-after : (a : Reading) (n p : ℕ) → a ≡ answers.Refused n p → (rest : Reply) → after a rest ≡ refused n p
-refused-after a n p e rest = ap (λ (x : Reading). after x rest) e
-
-read-after : (a : Reading) → a ≡ answers.Read → (rest : Reply) → after a rest ≡ rest
-read-after a e rest = ap (λ (x : Reading). after x rest) e
-
 module _ (t : View) (a : Reading) (loads : (rest : Reply) → each (loadTest t) 0 (t .wires) rest ≡ after a rest) where
   pub loads-stop : (n p : ℕ) → a ≡ answers.Refused n p → Stops (boundsTests t) n p
   unfolding boundsTests
-  loads-stop n p e rest = loads _ ∙ refused-after a n p e _
+  loads-stop n p e rest = refused-by _ (λ r. r) a loads n p e _
 
   pub loads-through : a ≡ answers.Read → (rest : Reply) → each (loadTest t) 0 (t .wires) rest ≡ rest
-  loads-through e rest = loads rest ∙ read-after a e rest
+  loads-through = passed-by _ (λ r. r) a loads
 
   module _ (pass : a ≡ answers.Read) (b : Reading) (rooms : (rest : Reply) → each (roomTest t) 0 (t .wires) rest ≡ after b rest) where
     pub rooms-stop : (n p : ℕ) → b ≡ answers.Refused n p → Stops (boundsTests t) n p
     unfolding boundsTests
-    rooms-stop n p e rest = loads-through pass _ ∙ rooms _ ∙ refused-after b n p e _
+    rooms-stop n p e rest = loads-through pass _ ∙ refused-by _ (λ r. r) b rooms n p e _
 
     pub rooms-through : b ≡ answers.Read → (rest : Reply) → boundsTests t rest ≡ each (deadlineTest t) 0 (t .channels) rest
     unfolding boundsTests
-    rooms-through e rest = loads-through pass _ ∙ rooms _ ∙ read-after b e _
+    rooms-through e rest = loads-through pass _ ∙ passed-by _ (λ r. r) b rooms e _

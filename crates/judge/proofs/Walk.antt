@@ -1,9 +1,9 @@
 -- Laws of the walk over the wires: what a channel has gathered before a wire, and how large the figures get.
 use mathlib.Core.Path.{_≡_, refl, sym, ap, _∙_}
 use mathlib.Core.Bool.{Bool, true, false, _||_, or-true, or-false, or-comm, or-assoc}
-use mathlib.Core.Logic.{_⊎_, inl, inr}
+use mathlib.Core.Logic.{inl, inr}
 use mathlib.Core.List.{List, [], _∷_, _++_}
-use Prim.Native.Nat.{ℕ, zero, suc, _+_, _-_, _*_, _/_, _%_, _^_, _≤_, _<_}
+use Prim.Native.Nat.{ℕ, zero, suc, _+_, _-_, _*_, _/_, _^_, _≤_, _<_}
 use native.Mathlib.Nat.{mul-le-mul-left, mul-le-mul, div-lt-iff-lt-mul, div-le-self, le-trans}
 use native.Mathlib.Numerals.{add-one}
 use native.Mathlib.Omega.{arith}
@@ -13,14 +13,13 @@ use lib.Seq.{take-suc, take-all}
 use lib.Dec.{ltb, eqb}
 use borrow.Author.Tests.{lt-ltb, le-ltb, eq-eqb, ne-eqb}
 use Rattle.rules.specs.Words.{sum, total, only, has, up}
-use Rattle.rules.specs.Numbers.{wiresMost, channelsMost, hopsMost, hyperMost, routesMost}
+use Rattle.rules.specs.Numbers.{wiresMost, channelsMost, hyperMost}
 use Rattle.rules.specs.Table.{View}
-use Rattle.rules.specs.Bounds.{cost, times, on, loadOf, load, along, jitter, shareOf, backlogAfter, delayAfter, known, backlog, delay, endToEnd}
+use Rattle.rules.specs.Bounds.{cost, times, on, loadOf, load, along, jitter, shareOf, delayAfter, backlog, delay}
 use Rattle.rules.proofs.Sound.{Climbs, Sound}
-use Rattle.rules.proofs.Sums.{sum-le, sum-same, sum-add, sum-scale}
+use Rattle.rules.proofs.Sums.{sum-le, sum-add, sum-scale}
 use Rattle.rules.proofs.Prices.{priceMost, price-most}
-use Rattle.rules.proofs.Routes.{climbs-least, climbs-below}
-use Rattle.rules.proofs.Delays.{jitter-known}
+use Rattle.rules.proofs.Routes.{climbs-least}
 use Rattle.judge.specs.Filed.{filedMost, Filing}
 use Rattle.judge.specs.Figures.{part, FiledBelow}
 use Rattle.judge.proofs.Filing.{either, never, count-most, next-place, next-load, next-fits, filing-same, filed-put, filed-next}

@@ -7,13 +7,13 @@ use native.Mathlib.Nat.{mul-le-mul, mul-le-mul-right, le-trans}
 use native.Mathlib.Omega.{arith}
 use lib.ListN.{length, getD, set, replicate}
 use Rattle.bits.proofs.Laws.{field-lt}
-use Rattle.rules.specs.Words.{sum, only, has}
+use Rattle.rules.specs.Words.{sum, only}
 use Rattle.rules.specs.Numbers.{wiresMost, channelsMost, hopsMost, hyperMost}
 use Rattle.rules.specs.Table.{View, viewOf, roomOf, propOf}
 use Rattle.rules.specs.Bounds.{on, load, jitter, shareOf, backlogAfter, known, backlog, delay, endToEnd}
 use Rattle.rules.specs.Judgement.{roomTest}
 use Rattle.rules.specs.Decoded.{column}
-use Rattle.rules.proofs.Sound.{Climbs, Sound}
+use Rattle.rules.proofs.Sound.{Sound}
 use Rattle.rules.proofs.Delays.{jitter-known}
 use Rattle.rules.proofs.Tests.{Through, Stops, gate-through, le-gate}
 use Rattle.rules.proofs.Search.{le-stops}
@@ -21,7 +21,7 @@ use Rattle.rules.proofs.Columns.{column-none, column-set, column-told, column-a
 use native.Mathlib.Decide.{ℕ-discrete}
 use Rattle.judge.specs.Filed.{Raised}
 use Rattle.judge.proofs.Told.{entry-at}
-use Rattle.judge.proofs.Walk.{reach, along-reach, reach-next, reach-start, reach-end, reach-most, delay-most, partMost, shares-most}
+use Rattle.judge.proofs.Walk.{reach, along-reach, reach-next, reach-start, reach-end, reach-most, delay-most, shares-most}
 
 -- what a wire adds to a channel's jitter, and to its delay
 abbrev pub late : View → ℕ → ℕ

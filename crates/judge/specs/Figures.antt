@@ -1,14 +1,14 @@
 -- What one stage of the bounds tells the next.
 use mathlib.Core.Path.{_≡_}
-use mathlib.Core.Bool.{true, false}
+use mathlib.Core.Bool.{false}
 use mathlib.Core.List.{List}
-use Prim.Native.Nat.{ℕ, _+_, _*_, _<_, _≤_}
-use lib.ListN.{length, getD}
+use Prim.Native.Nat.{ℕ, _*_}
+use lib.ListN.{getD}
 use lib.Dec.{leb}
-use Rattle.rules.specs.Numbers.{wiresMost, channelsMost, hopsMost}
+use Rattle.rules.specs.Numbers.{wiresMost, channelsMost}
 use Rattle.rules.specs.Replies.{Reply, test}
 use Rattle.rules.specs.Table.{View}
-use Rattle.rules.specs.Bounds.{cost, times, on, load, backlog, delay, endToEnd}
+use Rattle.rules.specs.Bounds.{cost, times, on, backlog, delay, endToEnd}
 use Rattle.rules.specs.Decoded.{column}
 use Rattle.judge.specs.declared.bounds.Worked.{Worked}
 use Rattle.judge.specs.Filed.{Filing}

@@ -10,7 +10,7 @@ ghost use Rattle.rules.specs.Numbers.{wiresMost, channelsMost, hopsMost};
 ghost use Rattle.rules.specs.Replies.{Reply, granted, each};
 ghost use Rattle.rules.specs.Table.{viewOf};
 ghost use Rattle.rules.specs.Reading.{reading};
-ghost use Rattle.rules.specs.Bounds.{cost, times as timesOf, on, load as loadOf, shareOf, known, jitter as jitterOf, delay as delayOf, backlog as backlogOf};
+ghost use Rattle.rules.specs.Bounds.{cost, times as timesOf, on, load as loadOf, shareOf, known, jitter as jitterOf};
 ghost use Rattle.rules.specs.Judgement.{roomTest, boundsTests};
 ghost use Rattle.rules.specs.Decoded.{tableOf, column};
 ghost use Rattle.rules.proofs.Sound.{Sound};
@@ -187,6 +187,18 @@ fn less_one(d: u64) -> u64
     if d == 0 { 0 } else { d - 1 }
 }
 
+// A refusal, with no figures.
+fn unworked(answer: Reading) -> Worked
+    ensures { λ r. ⌜ r .answer ≡ answer ⌝ }
+{
+    Worked {
+        answer,
+        backlog: [0; Table::WIRES_MOST],
+        delay: [0; Table::WIRES_MOST],
+        end: [0; Table::CHANNELS_MOST],
+    }
+}
+
 // Wires in ascending order, so that the jitter of each of a wire's channels is known when it is worked out; up to the first
 // that fails 13, so that every delay before it fits 24 bits.
 fn walk(
@@ -209,7 +221,6 @@ fn walk(
     let room = t.room;
     let price = t.price;
     let times = t.times;
-    let mut answer = Reading::Read;
     let mut backlog = [0u64; Table::WIRES_MOST];
     let mut delay = [0u64; Table::WIRES_MOST];
     let mut jitter = [0u64; Table::CHANNELS_MOST];
@@ -217,39 +228,27 @@ fn walk(
     for w in 0..n {
         let bytes = shares(table, w, count[w], list, hyper, &price, &times, &jitter) / hyper;
         if room[w] < bytes {
-            answer = Reading::Refused(13, w as u64);
-            break;
+            return unworked(Reading::Refused(13, w as u64));
         }
-        let late = slots(bytes, rate[w]);
+        let wait = slots(bytes, rate[w]);
         backlog[w] = bytes;
-        delay[w] = late;
+        delay[w] = wait;
         raise(
             table,
             w,
             count[w],
             list,
-            less_one(late),
-            late + prop[w],
+            less_one(wait),
+            wait + prop[w],
             &mut jitter,
             &mut end,
         );
     }
     Worked {
-        answer,
+        answer: Reading::Read,
         backlog,
         delay,
         end,
-    }
-}
-
-fn unworked(answer: Reading) -> Worked
-    ensures { λ r. ⌜ r .answer ≡ answer ⌝ }
-{
-    Worked {
-        answer,
-        backlog: [0; Table::WIRES_MOST],
-        delay: [0; Table::WIRES_MOST],
-        end: [0; Table::CHANNELS_MOST],
     }
 }
 

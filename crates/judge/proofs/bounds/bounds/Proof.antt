@@ -1,9 +1,9 @@
 -- `judge::bounds::bounds` meets its contract: the tests of its three parts, one after the other.
-use mathlib.Core.Path.{_≡_, refl, sym, ap, _∙_}
+use mathlib.Core.Path.{_≡_, sym, ap, _∙_}
 use mathlib.Core.List.{List}
-use Prim.Native.Nat.{ℕ, _+_, _*_, _^_, _≤_, _<_}
+use Prim.Native.Nat.{ℕ}
 use native.Mathlib.Omega.{arith}
-use lib.ListN.{length, getD}
+use lib.ListN.{length}
 use borrow.Author.Needs.{needs}
 use Rattle.rules.specs.declared.Reading.the-variants as answers
 use Rattle.rules.specs.Numbers.{wiresMost, channelsMost}
@@ -15,11 +15,11 @@ use Rattle.rules.proofs.Sound.{Sound}
 use Rattle.rules.proofs.ReadingLaws.{granted-sound}
 use Rattle.rules.proofs.Columns.{length-column}
 use Rattle.table.specs.Stages.{after}
-use Rattle.table.proofs.Answers.{refusal}
+use Rattle.table.proofs.Answers.{refusal, read-of}
 use Rattle.judge.specs.Figures.{part, FiledBelow, WorkedOut}
 use Rattle.judge.proofs.Filing.{filed-none, filed-stretch}
 use Rattle.judge.proofs.Told.{Told, told}
-use Rattle.judge.proofs.Limits.{load-limit-fits, load-tests, loads-pass, loads-stop, loads-through, rooms-stop, rooms-through, end-limit-fits, end-tests, deadline-lt, read-of, if-read}
+use Rattle.judge.proofs.Limits.{load-limit-fits, load-tests, loads-pass, loads-stop, loads-through, rooms-stop, rooms-through, end-limit-fits, end-tests, deadline-lt, if-read}
 use Rattle.judge.proofs.bounds.bounds.Statement.{statement}
 use Rattle.judge.proofs.bounds.bounds.Tie as tie
 
@@ -36,7 +36,7 @@ module _ (c : tie.Start) where
 file-requires : tie.Need-file-requires
 file-requires c κs =
     let st = c .before .before .before .before .before .before in
-    (sound st, (st .pre .1, filed-none (on (t st)) (part (t st)) 0 _ _ _ refl refl refl))
+    (sound st, (st .pre .1, filed-none (on (t st)) (part (t st))))
 
 module _ (c : tie.After-file) where
   abbrev st : tie.Start

@@ -1,9 +1,8 @@
 -- `judge::bounds::none_over` meets its contract. The loop's invariant: the search from the start is the search from figure i.
-use mathlib.Core.Path.{_≡_}
-use mathlib.Core.List.{List}
-use Prim.Native.Nat.{ℕ, _+_, _-_, _*_, _≤_, _<_}
+
+use Prim.Native.Nat.{ℕ, _-_, _*_, _≤_}
 use native.Mathlib.Omega.{arith}
-use lib.ListN.{length, getD}
+use lib.ListN.{getD}
 use borrow.Author.Needs.{needs}
 use Rattle.rules.specs.Replies.{Reply}
 use Rattle.rules.proofs.Tests.{gate-through, le-gate}

@@ -1,10 +1,9 @@
 -- `judge::bounds::shares` meets its contract. The loop's invariant: the sum of the shares of the wire's first j channels.
 use mathlib.Core.Path.{_≡_, refl, sym, ap, ap₂, subst, _∙_}
 use mathlib.Core.Bool.{Bool}
-use mathlib.Core.List.{List}
 use Prim.Native.Nat.{ℕ, _+_, _-_, _*_, _^_, _≤_, _<_}
 use native.Mathlib.Omega.{arith}
-use lib.ListN.{length, getD}
+use lib.ListN.{getD}
 use borrow.Author.Needs.{needs}
 use Rattle.rules.specs.Words.{sum as sumOf}
 use Rattle.rules.specs.Numbers.{channelsMost}
@@ -146,7 +145,7 @@ loop-less : tie.Need-loop-less Inv-loop μ-loop
 loop-less c = search needs
 
 loop-again : tie.Need-loop-again Inv-loop μ-loop
-loop-again c = let r = c .before .before .before .before in (omega arith, ap (λ (x : ℕ). top r .loop .sum + x) (c .share .ensures ∙ told-share r) ∙ sym (next r))
+loop-again c = let r = c .before .before .before .before in (omega arith, omega (arith, c .share .ensures, told-share r, next r))
 
 returns : tie.Need-returns Inv-loop μ-loop
 returns c = let top = c .before in top .loop .inv .1 ∙ among-end (inside top) (full (t top) (w top)) (t top .channels) (top .loop .j) (omega (arith, stretch top .all, top .loop .inv .0, c .loop-test .left)) ∙ whole top

@@ -1,13 +1,11 @@
 -- `judge::bounds::walk` meets its contract. The loop's invariant: test 13 from the start is that from wire w, and everything
 -- before wire w is worked out.
-use mathlib.Core.Path.{_≡_, refl, sym, ap, ap₂, _∙_}
+use mathlib.Core.Path.{_≡_, sym, ap, ap₂, _∙_}
 use mathlib.Core.List.{List}
-use Prim.Native.Nat.{ℕ, _+_, _-_, _*_, _/_, _^_, _≤_, _<_}
+use Prim.Native.Nat.{ℕ, _+_, _-_, _/_, _^_, _≤_, _<_}
 use native.Mathlib.Omega.{arith}
 use lib.ListN.{length, getD}
 use borrow.Author.Needs.{needs}
-use Rattle.rules.specs.declared.Reading.{Reading}
-use Rattle.rules.specs.declared.Reading.the-variants as answers
 use Rattle.rules.specs.Words.{up}
 use Rattle.rules.specs.Numbers.{wiresMost, channelsMost}
 use Rattle.rules.specs.Table.{View, viewOf}
@@ -17,31 +15,29 @@ use Rattle.rules.specs.Decoded.{column}
 use Rattle.rules.proofs.Sound.{Sound}
 use Rattle.rules.proofs.Columns.{length-column}
 use Rattle.rules.proofs.Search.{FromHere, from-start, from-next, from-stop, from-end}
-use Rattle.table.proofs.Answers.{passage}
+use Rattle.table.proofs.Answers.{refusal}
 use Rattle.judge.proofs.Told.{Told, told, entry-at}
 use Rattle.judge.proofs.Walk.{delay-up, delay-most}
 use Rattle.judge.proofs.Walking.{Walking, Loaded, loaded, late, spent, backlog-is, walking-start, walking-next, walking-ends, jitter-at, jitter-small, end-at, end-small, jitter-told, shares-small, room-through, room-stops}
 use Rattle.judge.proofs.bounds.walk.Statement.{statement}
 use Rattle.judge.proofs.bounds.walk.Tie as tie
 
-record Here (t : View) (n : ℕ) (answer : Reading) (backlog delay jitter end : List ℕ) (w : ℕ) : Type 0 where
+record Here (t : View) (n : ℕ) (backlog delay jitter end : List ℕ) (w : ℕ) : Type 0 where
   pub most : w ≤ n
-  pub none : answer ≡ answers.Read
   pub search : FromHere (roomTest t) (t .wires) w
   pub walking : Walking t w backlog delay jitter end
 
 abbrev Inv-loop : tie.InvT-loop
-Inv-loop table list count n hyper rate prop room price times answer₀ backlog₀ delay₀ jitter₀ end₀ w₀ answer backlog delay jitter end w = Here (viewOf table) n answer backlog delay jitter end w
+Inv-loop table list count n hyper rate prop room price times backlog₀ delay₀ jitter₀ end₀ w₀ backlog delay jitter end w = Here (viewOf table) n backlog delay jitter end w
 
 abbrev μ-loop : tie.MeasureT-loop
-μ-loop table list count n hyper rate prop room price times answer₀ backlog₀ delay₀ jitter₀ end₀ w₀ answer backlog delay jitter end w = n - w
+μ-loop table list count n hyper rate prop room price times backlog₀ delay₀ jitter₀ end₀ w₀ backlog delay jitter end w = n - w
 
 loop-holds : tie.Need-loop-holds Inv-loop μ-loop
 loop-holds c =
     let st = c .before .before .before .before .before .before in
     record {
       most = omega arith;
-      none = refl;
       search = from-start (roomTest (viewOf (st .args .table .now))) (viewOf (st .args .table .now) .wires);
       walking = walking-start (viewOf (st .args .table .now));
     }
@@ -111,6 +107,16 @@ mul-if1 c = omega (arith, most (turn c))
 
 array-read-if1 : tie.Need-array-read-if1 Inv-loop μ-loop
 array-read-if1 c = most (turn c)
+
+unworked-requires : tie.Need-unworked-requires Inv-loop μ-loop
+unworked-requires c κs = search needs
+
+returns : tie.Need-returns Inv-loop μ-loop
+returns c =
+    let r = c .before .before in
+    let top = top r in
+    refusal (λ rest. rest) _ _ 13 (w top) (c .unworked .ensures)
+    (from-stop (roomTest (t top)) (t top .wires) (w top) (less (turn r)) (top .loop .inv .search) (room-stops (t top) (w top) (omega (arith, told-backlog r, told-room r, c .before .if1 .taken))))
 
 module _ (c : tie.Else1 Inv-loop μ-loop) where
   abbrev turn2 : tie.In-loop Inv-loop μ-loop
@@ -235,29 +241,23 @@ loop-again c =
     let turn = turn2 (r .before) in
     record {
       most = omega arith;
-      none = top .loop .inv .none;
       search = from-next (roomTest (t top)) (t top .wires) (w top) (less turn) (top .loop .inv .search) (room-through (t top) (w top) (passed (r .before)));
       walking =
           walking-next (t top) (full top) (w top) _ _ _ _ (walking top) (less turn) (passed (r .before)) _ _ _ _
           (told-backlog (r .before .before)) (told-delay r) (told-late l) (told-spent r) _ _ (c .raise .ensures .0) (c .raise .ensures .1);
     }
 
-returns : tie.Need-returns Inv-loop μ-loop
-returns c =
-    let top = c .before in
-    let all : w top ≡ t top .wires = omega (arith, top .loop .inv .most, c .loop-test .left, as-read top .wires) in
-    passage _ _ (top .loop .inv .none) (from-end (roomTest (t top)) (t top .wires) (w top) (omega arith) (top .loop .inv .search))
-    (record {
-      backlogs = walking top .backlogs-told ∙ ap (λ (k : ℕ). column wiresMost k (bounds.backlog (t top))) all;
-      delays = walking top .delays-told ∙ ap (λ (k : ℕ). column wiresMost k (bounds.delay (t top))) all;
-      ends = walking-ends (t top) (sound top) (w top) all _ (walking top .ends-told);
-    })
-
 returns-2 : tie.Need-returns-2 Inv-loop μ-loop
 returns-2 c =
-    let r = c .before in
-    let top = top r in
-    (from-stop (roomTest (t top)) (t top .wires) (w top) (less (turn r)) (top .loop .inv .search) (room-stops (t top) (w top) (omega (arith, told-backlog r, told-room r, c .if1 .taken))), tt)
+    let top = c .before in
+    let all : w top ≡ t top .wires = omega (arith, top .loop .inv .most, c .loop-test .left, as-read top .wires) in (
+      from-end (roomTest (t top)) (t top .wires) (w top) (omega arith) (top .loop .inv .search),
+      record {
+        backlogs = walking top .backlogs-told ∙ ap (λ (k : ℕ). column wiresMost k (bounds.backlog (t top))) all;
+        delays = walking top .delays-told ∙ ap (λ (k : ℕ). column wiresMost k (bounds.delay (t top))) all;
+        ends = walking-ends (t top) (sound top) (w top) all _ (walking top .ends-told);
+      },
+    )
 
 pub walk-spec : {M : Type 1} → statement M
 walk-spec =
@@ -272,6 +272,8 @@ walk-spec =
     div-bytes
     mul-if1
     array-read-if1
+    unworked-requires
+    returns
     mul-slots
     array-read-slots
     slots-requires
@@ -289,5 +291,4 @@ walk-spec =
     add-w
     loop-less
     loop-again
-    returns
     returns-2)
