@@ -1,5 +1,4 @@
 -- A few fields, read, written or past the end, that antt computes.
--- Assumes nothing.
 use mathlib.Core.Path.{_≡_, refl}
 use mathlib.Core.Bool.{true, false}
 use mathlib.Core.List.{[], _∷_}

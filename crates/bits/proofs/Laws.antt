@@ -1,5 +1,4 @@
 -- Laws of bits and fields, over lists of numbers. Where no bound on a byte is asked, the list need not be of bytes.
--- Assumes nothing.
 use mathlib.Core.Path.{_≡_, refl, sym, ap, ap₂, subst, _∙_}
 use mathlib.Core.Logic.{_≢_, _⊎_, inl, inr}
 use mathlib.Core.Bool.{Bool, true, false, _&&_, cond}

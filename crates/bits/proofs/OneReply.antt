@@ -1,5 +1,4 @@
 -- No two replies that differ meet a function's contract on the same arguments; nor do two buffers.
--- Assumes nothing.
 use mathlib.Core.Path.{_≡_, sym, _∙_}
 use contract.Lifetimes.{Lfts}
 use denote.Ref.{now}
