@@ -241,6 +241,13 @@ module _ (s : List ℕ) where
   unfolding channelTests
   channel-record c rest = refl
 
+  -- the filling is the field of the bits that are left
+  pub filling-is : (end w : ℕ) {x : ℕ} → x ≡ field s end w → end ≡ endOf s → end + w ≡ 8 * length s → x ≡ fillingOf s (endOf s)
+  unfolding fillingOf
+  filling-is end w e q l =
+      let f : w ≡ 8 * length s - end = omega arith in
+      e ∙ ap (λ (k : ℕ). field s end k) f ∙ ap (λ (k : ℕ). field s k (8 * length s - k)) q
+
   pub filling-long : up (endOf s) 8 < length s → Stops (fillingTests s) 11 0
   unfolding fillingTests
   filling-long l = first-stops 11 0 _ _ (le-stops 11 0 _ _ l)

@@ -6,7 +6,6 @@ use Prim.Native.Nat.{ℕ, _+_, _-_, _*_, _≤_, _<_}
 use native.Mathlib.Omega.{arith}
 use lib.ListN.{length, getD, set}
 use borrow.Author.Needs.{needs}
-use borrow.Author.Tests.{not-true, not-false, leb-true, leb-false}
 use Rattle.rules.specs.declared.Reading.{Reading}
 use Rattle.rules.specs.declared.Reading.the-variants as answer
 use Rattle.rules.specs.Numbers.{rates, wireBits, wiresMost}
@@ -15,7 +14,7 @@ use Rattle.rules.specs.Reading.{wireTests}
 use Rattle.rules.specs.Decoded.{column}
 use Rattle.rules.proofs.Columns.{column-none, column-set, length-column}
 use Rattle.rules.proofs.Search.{FromHere, from-start, from-next, from-stop, from-end, wire-1, wire-5, wire-passes, no-rate, some-rate}
-use Rattle.table.proofs.Answers.{passage}
+use Rattle.table.proofs.Answers.{held, missed, passage}
 use Rattle.table.proofs.wires_of.Statement.{statement}
 use Rattle.table.proofs.wires_of.Tie as tie
 
@@ -66,7 +65,9 @@ module _ (c : tie.In-loop Inv-loop μ-loop) where
 
 inside : (c : tie.Else1 Inv-loop μ-loop) → wireAt (w (c .before .before)) + wireBits ≤ 8 * length (s (c .before .before))
 unfolding wireAt
-inside c = leb-true _ _ (sym (c .before .holds .ensures) ∙ not-false (c .before .holds .result) (c .if1 .left))
+inside c =
+    let i = c .before .before in
+    held (s i) (wireAt (w i)) wireBits (c .before .holds .result) (c .before .holds .ensures) (c .if1 .left)
 
 field-at-requires : tie.Need-field-at-requires Inv-loop μ-loop
 unfolding wireAt
@@ -174,7 +175,9 @@ returns c =
 
 past : (c : tie.Then1 Inv-loop μ-loop) → 8 * length (s (c .before .before)) < wireAt (w (c .before .before)) + wireBits
 unfolding wireAt
-past c = leb-false _ _ (sym (c .before .holds .ensures) ∙ not-true (c .before .holds .result) (c .if1 .taken))
+past c =
+    let i = c .before .before in
+    missed (s i) (wireAt (w i)) wireBits (c .before .holds .result) (c .before .holds .ensures) (c .if1 .taken)
 
 returns-2 : tie.Need-returns-2 Inv-loop μ-loop
 returns-2 c =
