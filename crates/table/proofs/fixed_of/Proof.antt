@@ -1,5 +1,5 @@
 -- `table::fixed_of` meets its contract: each return by the tests that led there.
-use mathlib.Core.Path.{_≡_, refl, sym, ap, ap₂, _∙_}
+use mathlib.Core.Path.{_≡_, sym, ap₂, _∙_}
 use mathlib.Core.Logic.{inl, inr}
 use mathlib.Core.List.{List}
 use Prim.Native.Nat.{ℕ, _+_, _*_, _/_, _%_, _≤_, _<_}
@@ -7,7 +7,7 @@ use native.Mathlib.Omega.{arith}
 use lib.ListN.{length}
 use borrow.Author.Needs.{needs}
 use Rattle.bits.proofs.Laws.{field-lt}
-use Rattle.rules.specs.Numbers.{fixedBits, hopBits, hopsMost}
+use Rattle.rules.specs.Numbers.{fixedBits, hopBits}
 use Rattle.rules.specs.Price.{price}
 use Rattle.rules.specs.Table.{hyperOf, framingAt, payloadAt, periodAt, deadlineAt, hopsAt}
 use Rattle.rules.proofs.Search.{record-1, record-6, record-7, record-8, record-route, record-hops}

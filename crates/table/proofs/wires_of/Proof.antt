@@ -4,7 +4,7 @@ use mathlib.Core.Path.{_≡_, refl, sym, ap, _∙_}
 use mathlib.Core.List.{List}
 use Prim.Native.Nat.{ℕ, _+_, _-_, _*_, _≤_, _<_}
 use native.Mathlib.Omega.{arith}
-use lib.ListN.{length, getD, set}
+use lib.ListN.{length, getD}
 use borrow.Author.Needs.{needs}
 use Rattle.rules.specs.declared.Reading.{Reading}
 use Rattle.rules.specs.declared.Reading.the-variants as answer
@@ -12,7 +12,7 @@ use Rattle.rules.specs.Numbers.{rates, wireBits, wiresMost}
 use Rattle.rules.specs.Table.{wireAt, codeOf, rateOf, propOf, roomOf}
 use Rattle.rules.specs.Reading.{wireTests}
 use Rattle.rules.specs.Decoded.{column}
-use Rattle.rules.proofs.Columns.{column-none, column-set, length-column}
+use Rattle.rules.proofs.Columns.{column-none, column-set}
 use Rattle.rules.proofs.Search.{FromHere, from-start, from-next, from-stop, from-end, wire-1, wire-5, wire-passes, no-rate, some-rate}
 use Rattle.table.proofs.Answers.{held, missed, passage}
 use Rattle.table.proofs.wires_of.Statement.{statement}
@@ -156,9 +156,9 @@ loop-again c =
       most = omega arith;
       none = here .none;
       search = from-next (wireTests (s i)) (n i) (w i) (omega arith) (here .search) (wire-passes (s i) (w i) (inside (r .before .before)) (some c));
-      rates = ap (λ (l : List ℕ). set l (w i) (r .rate .result)) (here .rates) ∙ column-set wiresMost (rateOf (s i)) (w i) _ (omega arith) (bytes r);
-      props = ap (λ (l : List ℕ). set l (w i) (c .before .field-at2 .result)) (here .props) ∙ column-set wiresMost (propOf (s i)) (w i) _ (omega arith) (prop c);
-      rooms = ap (λ (l : List ℕ). set l (w i) (c .field-at3 .result)) (here .rooms) ∙ column-set wiresMost (roomOf (s i)) (w i) _ (omega arith) (room c);
+      rates = column-set wiresMost (rateOf (s i)) (w i) (omega arith) (here .rates) (bytes r);
+      props = column-set wiresMost (propOf (s i)) (w i) (omega arith) (here .props) (prop c);
+      rooms = column-set wiresMost (roomOf (s i)) (w i) (omega arith) (here .rooms) (room c);
     }
 
 returns : tie.Need-returns Inv-loop μ-loop
