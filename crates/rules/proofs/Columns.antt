@@ -1,6 +1,6 @@
 -- Laws of a column: an array that is filled from the front, one store an entry.
 use mathlib.Core.Path.{_≡_, refl, sym, ap, _∙_}
-use mathlib.Core.List.{List, [], _∷_, _++_}
+use mathlib.Core.List.{List, [], _∷_}
 use Prim.Native.Nat.{ℕ, zero, suc, _+_, _-_, _*_, _/_, _%_, _≤_, _<_}
 use native.Mathlib.Omega.{arith}
 use native.Mathlib.Decide.{decLt, ℕ-discrete}
@@ -57,15 +57,15 @@ module _ (places : ℕ) (f : ℕ → ℕ) where
   column-none =
       column-told 0 (replicate places 0) (length-replicate places 0) (λ i l h. absurd (omega arith)) (λ i l h. getD-replicate places i 0 0 h)
 
-  pub column-set : (n x : ℕ) → n < places → x ≡ f n → set (column places n f) n x ≡ column places (n + 1) f
-  column-set n x h e =
-      let long : n < length (column places n f) = omega (arith, length-column n) in
-      column-told (n + 1) (set (column places n f) n x) (length-set (column places n f) n x ∙ length-column n)
+  pub column-set : (n : ℕ) {x : ℕ} {a : List ℕ} → n < places → a ≡ column places n f → x ≡ f n → set a n x ≡ column places (n + 1) f
+  column-set n {x} {a} h q e =
+      let long : length a ≡ places = ap length q ∙ length-column n in
+      column-told (n + 1) (set a n x) (length-set a n x ∙ long)
       (λ i l m. elim (ℕ-discrete i n) [
-        | yes q ↦ rw q (getD-set-same (column places n f) n x 0 long ∙ e)
-        | no o ↦ getD-set-other (column places n f) n i x 0 o ∙ column-at n i (omega arith) m
+        | yes y ↦ rw y (getD-set-same a n x 0 (omega arith) ∙ e)
+        | no o ↦ getD-set-other a n i x 0 o ∙ ap (λ (b : List ℕ). getD b i 0) q ∙ column-at n i (omega arith) m
       ])
-      (λ i l m. getD-set-other (column places n f) n i x 0 (λ q. omega arith) ∙ column-past n i (omega arith) m)
+      (λ i l m. getD-set-other a n i x 0 (λ y. omega arith) ∙ ap (λ (b : List ℕ). getD b i 0) q ∙ column-past n i (omega arith) m)
 
   -- entries that are 0 may count as filled
   pub column-more : (n k : ℕ) → n ≤ k → ((i : ℕ) → n ≤ i → i < k → f i ≡ 0) → column places n f ≡ column places k f
@@ -85,12 +85,13 @@ module _ (t : View) (c : ℕ) where
       let r : (hopsMost * c + i) % hopsMost ≡ i = omega arith in
       rw (q, r)
 
-  pub routes-set : (i x : ℕ) → c < channelsMost → i < hopsMost → x ≡ getD (t .route c) i 0
-      → set (column routesMost (hopsMost * c + i) (hopOf t)) (hopsMost * c + i) x ≡ column routesMost (hopsMost * c + (i + 1)) (hopOf t)
-  routes-set i x l m e =
-      let q : hopsMost * c + i + 1 ≡ hopsMost * c + (i + 1) = omega arith in
-      column-set routesMost (hopOf t) (hopsMost * c + i) x (omega arith) (e ∙ sym (hop-at i m))
-      ∙ ap (λ (k : ℕ). column routesMost k (hopOf t)) q
+  pub routes-set : (i : ℕ) {x : ℕ} {a : List ℕ} → c < channelsMost → i < hopsMost
+      → a ≡ column routesMost (hopsMost * c + i) (hopOf t) → x ≡ getD (t .route c) i 0
+      → set a (hopsMost * c + i) x ≡ column routesMost (hopsMost * c + (i + 1)) (hopOf t)
+  routes-set i l m q e =
+      let k : hopsMost * c + i + 1 ≡ hopsMost * c + (i + 1) = omega arith in
+      column-set routesMost (hopOf t) (hopsMost * c + i) (omega arith) q (e ∙ sym (hop-at i m))
+      ∙ ap (λ (j : ℕ). column routesMost j (hopOf t)) k
 
   -- past a channel's hops every place is 0
   pub routes-next : (i : ℕ) → i ≤ hopsMost → length (t .route c) ≤ i

@@ -1,20 +1,19 @@
 -- The searches of reading, as code goes through them: what is left of a search from where it stands, and the refusal that
 -- ends it.
-use mathlib.Core.Path.{_≡_, refl, sym, ap, _∙_}
+use mathlib.Core.Path.{_≡_, refl, ap, _∙_}
 use mathlib.Core.Logic.{_⊎_, inl, inr}
 use mathlib.Core.Bool.{Bool, true, false, _&&_}
-use mathlib.Core.List.{List, [], _∷_}
-use Prim.Native.Nat.{ℕ, zero, suc, _+_, _-_, _*_, _/_, _%_, _≤_, _<_}
-use native.Mathlib.Nat.{le-dest}
+use mathlib.Core.List.{List}
+use Prim.Native.Nat.{ℕ, zero, suc, _+_, _-_, _*_, _%_, _≤_, _<_}
 use native.Mathlib.Numerals.{add-one}
 use native.Mathlib.Omega.{arith}
 use lib.ListN.{length, getD}
 use lib.Dec.{leb, ltb, eqb}
-use borrow.Author.Tests.{le-leb, lt-leb, lt-ltb, le-ltb, eq-eqb, ne-eqb}
+use borrow.Author.Tests.{lt-leb, le-ltb, ne-eqb}
 use Rattle.bits.specs.Field.{field}
 use Rattle.rules.specs.Words.{between, up}
 use Rattle.rules.specs.Numbers.{rates, hyperMost, wiresMost, channelsMost, hopsMost, headBits, wireBits, fixedBits, hopBits}
-use Rattle.rules.specs.Replies.{Reply, refused, test, each}
+use Rattle.rules.specs.Replies.{Reply, test, each}
 use Rattle.rules.specs.Table.{hyperOf, wiresOf, channelsOf, wireAt, codeOf, channelAt, payloadAt, periodAt, hopsAt, routeAt, endOf, fillingOf}
 use Rattle.rules.specs.Reading.{headTests, wireTests, hopTests, divides, recordTests, channelTests, fillingTests}
 use Rattle.rules.proofs.Tests.{Through, Stops, gate-through, le-gate, lt-gate, between-gate}
@@ -240,6 +239,13 @@ module _ (s : List ℕ) where
   pub channel-record : (c : ℕ) (rest : Reply) → channelTests s c rest ≡ recordTests s c (channelAt s c) rest
   unfolding channelTests
   channel-record c rest = refl
+
+  -- the filling is the field of the bits that are left
+  pub filling-is : (end w : ℕ) {x : ℕ} → x ≡ field s end w → end ≡ endOf s → end + w ≡ 8 * length s → x ≡ fillingOf s (endOf s)
+  unfolding fillingOf
+  filling-is end w e q l =
+      let f : w ≡ 8 * length s - end = omega arith in
+      e ∙ ap (λ (k : ℕ). field s end k) f ∙ ap (λ (k : ℕ). field s k (8 * length s - k)) q
 
   pub filling-long : up (endOf s) 8 < length s → Stops (fillingTests s) 11 0
   unfolding fillingTests

@@ -1,8 +1,12 @@
 -- A stage's answer by what its tests do, and what all of them leave.
-use mathlib.Core.Path.{_≡_, refl, ap, _∙_}
+use mathlib.Core.Path.{_≡_, refl, sym, ap, _∙_}
+use mathlib.Core.Bool.{Bool, true, false, not}
 use mathlib.Core.List.{List, []}
-use Prim.Native.Nat.{ℕ, _*_}
+use Prim.Native.Nat.{ℕ, _+_, _*_, _≤_, _<_}
 use lib.ListN.{length}
+use borrow.Author.Tests.{not-true, not-false, leb-false}
+use Rattle.bits.specs.Field.{within}
+use Rattle.bits.proofs.Laws.{within-le}
 use Rattle.rules.specs.declared.Reading.{Reading}
 use Rattle.rules.specs.declared.Reading.the-variants as answer
 use Rattle.rules.specs.declared.Table.{Table}
@@ -18,6 +22,14 @@ use Rattle.table.specs.declared.Head.{Head}
 use Rattle.table.specs.declared.Wires.{Wires}
 use Rattle.table.specs.declared.Channels.{Channels}
 use Rattle.table.specs.Stages.{after, IfRead, HeadRead, WiresRead, ChannelsRead, wholeOf}
+
+-- a test of `holds`, that bits are all there
+module _ (s : List ℕ) (at w : ℕ) (b : Bool) (e : b ≡ within s at w) where
+  pub held : not b ≡ false → at + w ≤ 8 * length s
+  held h = within-le s at w (sym e ∙ not-false b h)
+
+  pub missed : not b ≡ true → 8 * length s < at + w
+  missed h = leb-false (at + w) (8 * length s) (sym e ∙ not-true b h)
 
 -- what a stage's contract says: its tests f, what is left of them where they pass, and what holds of what it read
 abbrev pub Answers : (Reply → Reply) → (Reply → Reply) → Type 0 → Reading → Type 0

@@ -5,7 +5,7 @@ use mathlib.Core.List.{List}
 use Prim.Native.Nat.{ℕ, _+_, _-_, _*_, _≤_, _<_}
 use native.Mathlib.Numerals.{add-one}
 use native.Mathlib.Omega.{arith}
-use lib.ListN.{length, getD, set}
+use lib.ListN.{length, getD}
 use borrow.Author.Needs.{needs}
 use Rattle.bits.specs.Field.{field}
 use Rattle.bits.proofs.Laws.{field-lt}
@@ -18,7 +18,7 @@ use Rattle.rules.specs.Table.{viewOf, wiresOf, wireAt, hopsAt, routeAt, channel
 use Rattle.rules.specs.Reading.{hopTests, recordTests, channelTests}
 use Rattle.rules.specs.Decoded.{column, hopOf}
 use Rattle.rules.proofs.Columns.{column-none, column-set, routes-set, routes-next}
-use Rattle.rules.proofs.Tests.{Through, Stops}
+use Rattle.rules.proofs.Tests.{Stops}
 use Rattle.rules.proofs.ReadingLaws.{length-route}
 use Rattle.rules.proofs.Search.{FromHere, from-start, from-next, from-stop, from-end, HopsHere, hops-start, hops-9, hops-10, hops-next, hops-end, getD-route, channel-record}
 use Rattle.table.specs.Stages.{FixedRead, hopsLeft}
@@ -222,7 +222,7 @@ loop-again c =
       most = omega arith;
       none = here .none;
       hops = hops-next (s f) (n f) (k f) (from f + fixedBits) (count (channel w)) i (hop w .loop .least) (omega arith) (here .hops) (wire w) (wire-is w) (omega arith) (omega arith);
-      routes = ap (λ (l : List ℕ). set l (hopsMost * k f + i) (wire w)) (here .routes) ∙ routes-set (viewOf (s f)) (k f) i (wire w) (omega (arith, f .before)) (omega (arith, short (channel w))) (named w);
+      routes = routes-set (viewOf (s f)) (k f) i (omega (arith, f .before)) (omega (arith, short (channel w))) (here .routes) (named w);
     }
 
 mul-price : tie.Need-mul-price Inv-loop μ-loop Inv-search μ-search
@@ -291,10 +291,10 @@ search-again c =
       start = next e;
       short = omega (arith, here .short, short e);
       inside = λ l. fixed e .route-inside;
-      prices = ap (λ (l : List ℕ). set l (k f) (f .fixed-of .result .price)) (here .prices) ∙ column-set channelsMost (cost t) (k f) _ fits (there e .price);
-      counts = ap (λ (l : List ℕ). set l (k f) (f .fixed-of .result .times)) (here .counts) ∙ column-set channelsMost (times t) (k f) _ fits (there e .times);
-      deadlines = ap (λ (l : List ℕ). set l (k f) (f .fixed-of .result .deadline)) (here .deadlines) ∙ column-set channelsMost (t .deadline) (k f) _ fits (there e .deadline);
-      lengths = ap (λ (l : List ℕ). set l (k f) (count e)) (here .lengths) ∙ column-set channelsMost (λ j. length (t .route j)) (k f) _ fits (hops-are e);
+      prices = column-set channelsMost (cost t) (k f) fits (here .prices) (there e .price);
+      counts = column-set channelsMost (times t) (k f) fits (here .counts) (there e .times);
+      deadlines = column-set channelsMost (t .deadline) (k f) fits (here .deadlines) (there e .deadline);
+      lengths = column-set channelsMost (λ j. length (t .route j)) (k f) fits (here .lengths) (hops-are e);
       routes =
           hop .routes
           ∙ routes-next t (k f) (c .before .loop .i) (omega (arith, hop .most, short e)) (omega (arith, done, hops-are e));

@@ -1,5 +1,5 @@
 -- `table::field_at` meets its contract: the field is served, so that a number is found.
-use mathlib.Core.Path.{_≡_, sym, _∙_}
+use mathlib.Core.Path.{sym, _∙_}
 use native.Mathlib.Omega.{arith}
 use borrow.Author.Needs.{needs}
 use Rattle.bits.proofs.Laws.{takenOf-is, takenOf-number}

@@ -1,11 +1,10 @@
 -- `table::filling_of` meets its contract: what is left of the last byte is the filling.
-use mathlib.Core.Path.{_≡_, sym, ap, _∙_}
+use mathlib.Core.Path.{_≡_, sym, _∙_}
+use mathlib.Core.List.{List}
 use native.Mathlib.Omega.{arith}
-use Rattle.bits.specs.Field.{field}
-use Prim.Native.Nat.{ℕ, _-_, _*_}
-use lib.ListN.{length}
+use Prim.Native.Nat.{ℕ}
 use Rattle.rules.specs.Table.{endOf, fillingOf}
-use Rattle.rules.proofs.Search.{filling-long, filling-not-0, filling-passes}
+use Rattle.rules.proofs.Search.{filling-is, filling-long, filling-not-0, filling-passes}
 use Rattle.table.proofs.filling_of.Statement.{statement}
 use Rattle.table.proofs.filling_of.Tie as tie
 
@@ -26,21 +25,23 @@ sub-field-at c = omega arith
 field-at-requires : tie.Need-field-at-requires
 field-at-requires c κs = omega arith
 
-filled : (c : tie.After-field-at) → let s = c .before .before .before .args .s .now in c .field-at .result ≡ fillingOf s (endOf s)
-unfolding fillingOf
-filled c =
-    let s = c .before .before .before .args .s .now in
-    c .field-at .ensures ∙ ap (λ (e : ℕ). field s e (8 * length s - e)) (c .before .before .before .pre .0)
+module _ (c : tie.After-field-at) where
+  abbrev st : tie.Start
+  st = c .before .before .before
+
+  abbrev s : List ℕ
+  s = st .args .s .now
+
+  filled : c .field-at .result ≡ fillingOf s (endOf s)
+  filled = filling-is s (st .args .end) _ (c .field-at .ensures) (st .pre .0) (omega arith)
 
 returns-2 : tie.Need-returns-2
 returns-2 c =
-    let st = c .before .before .before .before in
-    filling-not-0 (st .args .s .now) (λ e. c .if2 .taken (filled (c .before) ∙ e))
+    filling-not-0 (s (c .before)) (λ e. c .if2 .taken (filled (c .before) ∙ e))
 
 returns-3 : tie.Need-returns-3
 returns-3 c =
-    let st = c .before .before .before .before in
-    filling-passes (st .args .s .now) (omega (arith, st .pre .0)) (sym (filled (c .before)) ∙ c .if2 .left)
+    filling-passes (s (c .before)) (omega (arith, st (c .before) .pre .0)) (sym (filled (c .before)) ∙ c .if2 .left)
 
 pub filling-of-spec : {M : Type 1} → statement M
 filling-of-spec =

@@ -1,18 +1,17 @@
 -- `table::fixed_of` meets its contract: each return by the tests that led there.
-use mathlib.Core.Path.{_≡_, refl, sym, ap, ap₂, _∙_}
+use mathlib.Core.Path.{_≡_, sym, ap₂, _∙_}
 use mathlib.Core.Logic.{inl, inr}
 use mathlib.Core.List.{List}
 use Prim.Native.Nat.{ℕ, _+_, _*_, _/_, _%_, _≤_, _<_}
 use native.Mathlib.Omega.{arith}
 use lib.ListN.{length}
 use borrow.Author.Needs.{needs}
-use borrow.Author.Tests.{not-true, not-false, leb-true, leb-false}
 use Rattle.bits.proofs.Laws.{field-lt}
-use Rattle.rules.specs.Numbers.{fixedBits, hopBits, hopsMost}
+use Rattle.rules.specs.Numbers.{fixedBits, hopBits}
 use Rattle.rules.specs.Price.{price}
 use Rattle.rules.specs.Table.{hyperOf, framingAt, payloadAt, periodAt, deadlineAt, hopsAt}
 use Rattle.rules.proofs.Search.{record-1, record-6, record-7, record-8, record-route, record-hops}
-use Rattle.table.proofs.Answers.{refusal}
+use Rattle.table.proofs.Answers.{held, missed, refusal}
 use Rattle.table.proofs.fixed_of.Statement.{statement}
 use Rattle.table.proofs.fixed_of.Tie as tie
 
@@ -34,7 +33,7 @@ returns c =
     let st = c .before .before .before .before in
     let holds = c .before .before .holds in
     refusal _ _ _ 1 0 (c .no-fixed .ensures)
-    (record-1 (s st) (st .args .c) (at st) (leb-false _ _ (sym (holds .ensures) ∙ not-true (holds .result) (c .before .if1 .taken))))
+    (record-1 (s st) (st .args .c) (at st) (missed (s st) (at st) fixedBits (holds .result) (holds .ensures) (c .before .if1 .taken)))
 
 add-payload-at : tie.Need-add-payload-at
 add-payload-at c = search needs
@@ -46,7 +45,9 @@ add-deadline-at : tie.Need-add-deadline-at
 add-deadline-at c = search needs
 
 inside : (c : tie.Else1) → at (c .before .before .before) + fixedBits ≤ 8 * length (s (c .before .before .before))
-inside c = leb-true _ _ (sym (c .before .holds .ensures) ∙ not-false (c .before .holds .result) (c .if1 .left))
+inside c =
+    let st = c .before .before .before in
+    held (s st) (at st) fixedBits (c .before .holds .result) (c .before .holds .ensures) (c .if1 .left)
 
 field-at-requires : tie.Need-field-at-requires
 field-at-requires c κs = omega (arith, inside c)
@@ -160,7 +161,7 @@ returns-7 c =
     let f = fields g in
     let holds = c .before .before .holds2 in
     let short : 8 * length (s (st f)) < at (st f) + fixedBits + hopBits * f .field-at3 .result
-    = leb-false _ _ (sym (holds .ensures) ∙ not-true (holds .result) (c .before .if7 .taken)) in
+    = missed (s (st f)) (at (st f) + fixedBits) (hopBits * f .field-at3 .result) (holds .result) (holds .ensures) (c .before .if7 .taken) in
     refusal _ _ _ 1 0 (c .no-fixed7 .ensures)
     (record-route (s (st f)) (st f .args .c) (at (st f)) (there f) (some g) (divides g) (omega (arith, hops f)) (omega (arith, hops f, short)))
 
@@ -193,7 +194,7 @@ returns-8 c =
     let f = fields g in
     let holds = c .before .before .before .before .holds2 in
     let route : at (st f) + fixedBits + hopBits * f .field-at3 .result ≤ 8 * length (s (st f))
-    = leb-true _ _ (sym (holds .ensures) ∙ not-false (holds .result) (c .before .before .before .if7 .left)) in (
+    = held (s (st f)) (at (st f) + fixedBits) (hopBits * f .field-at3 .result) (holds .result) (holds .ensures) (c .before .before .before .if7 .left) in (
       record-hops (s (st f)) (st f .args .c) (at (st f)) (there f) (some g) (divides g) (omega (arith, hops f)) (omega (arith, hops f, route)),
       record {
         price = c .before .price-of .ensures ∙ ap₂ price (framing (c .before .before)) (payload f);

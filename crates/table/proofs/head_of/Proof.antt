@@ -1,15 +1,15 @@
 -- `table::head_of` meets its contract: each return by the tests that led there.
-use mathlib.Core.Path.{_≡_, refl, sym, _∙_}
+use mathlib.Core.Path.{_≡_}
 use mathlib.Core.Logic.{inl, inr}
 use mathlib.Core.List.{List}
 use Prim.Native.Nat.{ℕ, _*_, _≤_}
 use native.Mathlib.Omega.{arith}
 use lib.ListN.{length}
 use borrow.Author.Needs.{needs}
-use borrow.Author.Tests.{not-true, not-false, leb-true, leb-false}
 use Rattle.rules.specs.Numbers.{headBits}
 use Rattle.rules.specs.Table.{hyperOf, wiresOf, channelsOf}
 use Rattle.rules.proofs.Search.{head-1, head-2, head-3, head-4, head-passes}
+use Rattle.table.proofs.Answers.{held, missed}
 use Rattle.table.proofs.head_of.Statement.{statement}
 use Rattle.table.proofs.head_of.Tie as tie
 
@@ -20,10 +20,10 @@ returns : tie.Need-returns
 returns c =
     let holds = c .before .holds in
     let s = c .before .before .before .args .s .now in
-    (head-1 s (leb-false _ _ (sym (holds .ensures) ∙ not-true (holds .result) (c .if1 .taken))), tt)
+    (head-1 s (missed s 0 headBits (holds .result) (holds .ensures) (c .if1 .taken)), tt)
 
 inside : (c : tie.Else1) → headBits ≤ 8 * length (c .before .before .before .args .s .now)
-inside c = leb-true _ _ (sym (c .before .holds .ensures) ∙ not-false (c .before .holds .result) (c .if1 .left))
+inside c = held (c .before .before .before .args .s .now) 0 headBits (c .before .holds .result) (c .before .holds .ensures) (c .if1 .left)
 
 field-at-requires : tie.Need-field-at-requires
 field-at-requires c κs = omega (arith, inside c)

@@ -4,18 +4,17 @@ use mathlib.Core.Path.{_≡_, refl, sym, ap, _∙_}
 use mathlib.Core.List.{List}
 use Prim.Native.Nat.{ℕ, _+_, _-_, _*_, _≤_, _<_}
 use native.Mathlib.Omega.{arith}
-use lib.ListN.{length, getD, set}
+use lib.ListN.{length, getD}
 use borrow.Author.Needs.{needs}
-use borrow.Author.Tests.{not-true, not-false, leb-true, leb-false}
 use Rattle.rules.specs.declared.Reading.{Reading}
 use Rattle.rules.specs.declared.Reading.the-variants as answer
 use Rattle.rules.specs.Numbers.{rates, wireBits, wiresMost}
 use Rattle.rules.specs.Table.{wireAt, codeOf, rateOf, propOf, roomOf}
 use Rattle.rules.specs.Reading.{wireTests}
 use Rattle.rules.specs.Decoded.{column}
-use Rattle.rules.proofs.Columns.{column-none, column-set, length-column}
+use Rattle.rules.proofs.Columns.{column-none, column-set}
 use Rattle.rules.proofs.Search.{FromHere, from-start, from-next, from-stop, from-end, wire-1, wire-5, wire-passes, no-rate, some-rate}
-use Rattle.table.proofs.Answers.{passage}
+use Rattle.table.proofs.Answers.{held, missed, passage}
 use Rattle.table.proofs.wires_of.Statement.{statement}
 use Rattle.table.proofs.wires_of.Tie as tie
 
@@ -66,7 +65,9 @@ module _ (c : tie.In-loop Inv-loop μ-loop) where
 
 inside : (c : tie.Else1 Inv-loop μ-loop) → wireAt (w (c .before .before)) + wireBits ≤ 8 * length (s (c .before .before))
 unfolding wireAt
-inside c = leb-true _ _ (sym (c .before .holds .ensures) ∙ not-false (c .before .holds .result) (c .if1 .left))
+inside c =
+    let i = c .before .before in
+    held (s i) (wireAt (w i)) wireBits (c .before .holds .result) (c .before .holds .ensures) (c .if1 .left)
 
 field-at-requires : tie.Need-field-at-requires Inv-loop μ-loop
 unfolding wireAt
@@ -155,9 +156,9 @@ loop-again c =
       most = omega arith;
       none = here .none;
       search = from-next (wireTests (s i)) (n i) (w i) (omega arith) (here .search) (wire-passes (s i) (w i) (inside (r .before .before)) (some c));
-      rates = ap (λ (l : List ℕ). set l (w i) (r .rate .result)) (here .rates) ∙ column-set wiresMost (rateOf (s i)) (w i) _ (omega arith) (bytes r);
-      props = ap (λ (l : List ℕ). set l (w i) (c .before .field-at2 .result)) (here .props) ∙ column-set wiresMost (propOf (s i)) (w i) _ (omega arith) (prop c);
-      rooms = ap (λ (l : List ℕ). set l (w i) (c .field-at3 .result)) (here .rooms) ∙ column-set wiresMost (roomOf (s i)) (w i) _ (omega arith) (room c);
+      rates = column-set wiresMost (rateOf (s i)) (w i) (omega arith) (here .rates) (bytes r);
+      props = column-set wiresMost (propOf (s i)) (w i) (omega arith) (here .props) (prop c);
+      rooms = column-set wiresMost (roomOf (s i)) (w i) (omega arith) (here .rooms) (room c);
     }
 
 returns : tie.Need-returns Inv-loop μ-loop
@@ -174,7 +175,9 @@ returns c =
 
 past : (c : tie.Then1 Inv-loop μ-loop) → 8 * length (s (c .before .before)) < wireAt (w (c .before .before)) + wireBits
 unfolding wireAt
-past c = leb-false _ _ (sym (c .before .holds .ensures) ∙ not-true (c .before .holds .result) (c .if1 .taken))
+past c =
+    let i = c .before .before in
+    missed (s i) (wireAt (w i)) wireBits (c .before .holds .result) (c .before .holds .ensures) (c .if1 .taken)
 
 returns-2 : tie.Need-returns-2 Inv-loop μ-loop
 returns-2 c =
