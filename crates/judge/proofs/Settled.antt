@@ -1,19 +1,24 @@
 -- What the judge's own contract settles: case A's bytes force its reply and its sheet, another table another reply, and for any
 -- reply and buffer that meet it with acceptance the promise holds of the buffer's first bytes.
-use mathlib.Core.Path.{_≡_, sym, ap, _∙_}
+use mathlib.Core.Path.{_≡_, sym, ap, ap₂, _∙_}
 use mathlib.Core.List.{List, [], _∷_}
 use Prim.Native.Nat.{ℕ}
-use lib.ListN.{length, take}
+use lib.ListN.{length, take, replicate}
 use contract.Lifetimes.{Lfts}
 use denote.Ref.{now}
 use denote.Triple.Clauses.{AtExit}
 use borrow.Fn.World.{ArgsD, ResD}
 use borrow.Fn.Kinds.{endedOf}
+use Rattle.rules.specs.declared.Judging.{Judging}
 use Rattle.rules.specs.declared.Judging.the-variants as judging
 use Rattle.rules.specs.Replies.{judgingReply}
 use Rattle.rules.specs.Table.{viewOf}
+use Rattle.rules.specs.Judgement.{judge as judged, buffer}
+use Rattle.rules.specs.Cases.{caseA, caseA90}
 use Rattle.rules.specs.Machine.{Releases, Keeps, Run}
 use Rattle.rules.specs.Promise.{Promised}
+use Rattle.rules.proofs.Replies.{judging-one}
+use Rattle.rules.proofs.Cases.{case-a, case-a-90}
 use Rattle.rules.proofs.Promised.{promise}
 use Rattle.judge.proofs.judge as judge
 use Rattle.judge.proofs.judge.Kinds as judge-kinds
@@ -31,3 +36,22 @@ module _ (κs : Lfts 2) (a : ArgsD judge.signature κs) (r : ResD judge.signatur
       (run : Run (viewOf table) released) → Promised table (take len left) released run
   promise-kept len is released keeps run =
       rw (met .1) (promise table _ len (sym (met .0) ∙ ap judgingReply is) released keeps run)
+
+  -- a table and a lent length for which the definitions give one reply and one buffer
+  forced : (s : List ℕ) (lent : ℕ) (j : Judging) (bytes : List ℕ) → table ≡ s → length (now (a .1 .0)) ≡ lent
+      → (judged s lent ≡ judgingReply j) × (buffer s lent ≡ bytes) → (r ≡ j) × (left ≡ bytes)
+  forced s lent j bytes is long h = (
+    judging-one r j (met .0 ∙ ap₂ judged is long ∙ h .0),
+    met .1 ∙ ap₂ buffer is long ∙ h .1,
+  )
+
+  -- Refusing everything, one fixed reply and an untouched sheet do not meet the contract.
+  pub case-a-forced :
+      table ≡ caseA → length (now (a .1 .0)) ≡ 12 →
+      (r ≡ judging.Accepted 12)
+      × (left ≡ 0x02 ∷ 0x02 ∷ 0x00 ∷ 0x00 ∷ 0xa8 ∷ 0x00 ∷ 0x00 ∷ 0xa8 ∷ 0x00 ∷ 0x00 ∷ 0x0b ∷ 0x60 ∷ [])
+  case-a-forced is long = forced caseA 12 (judging.Accepted 12) _ is long case-a
+
+  pub case-a-90-forced :
+      table ≡ caseA90 → length (now (a .1 .0)) ≡ 12 → (r ≡ judging.Refused 14 0) × (left ≡ replicate 12 255)
+  case-a-90-forced is long = forced caseA90 12 (judging.Refused 14 0) _ is long case-a-90

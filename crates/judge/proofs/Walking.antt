@@ -97,8 +97,8 @@ module _ (t : View) (loaded : Loaded t) (w : ℕ) (backlogs delays jitters ends 
       let most = loaded .sound .channels-most in
       let small : w < wiresMost = omega (arith, loaded .sound .wires-most) in
       record {
-        backlogs-told = ap (λ (a : List ℕ). set a w x) (here .backlogs-told) ∙ column-set wiresMost (backlog t) w x small ex;
-        delays-told = ap (λ (a : List ℕ). set a w y) (here .delays-told) ∙ column-set wiresMost (delay t) w y small ey;
+        backlogs-told = column-set wiresMost (backlog t) w small (here .backlogs-told) ex;
+        delays-told = column-set wiresMost (delay t) w small (here .delays-told) ey;
         jitters-told = raised-column channelsMost (t .channels) more-jitter _ _ (on t w) jitters jitters' most (here .jitters-told) j (gathered-next (late t) more-jitter ej);
         ends-told = raised-column channelsMost (t .channels) more-delay _ _ (on t w) ends ends' most (here .ends-told) e (gathered-next (spent t) more-delay ee);
         passed = λ x less. elim (ℕ-discrete x w) [

@@ -1,16 +1,17 @@
 -- The marked cases hold, by computation.
-use mathlib.Core.Path.{refl}
+use mathlib.Core.Path.{_≡_, refl}
 use mathlib.Core.List.{List, [], _∷_}
+use lib.ListN.{replicate}
 use Rattle.bits.specs.Field.{bit, field, putBit, putField}
 use Rattle.rules.specs.Words.{sum, total, listed, has}
-use Rattle.rules.specs.Replies.{test, each}
+use Rattle.rules.specs.Replies.{granted, refused, test, each}
 use Rattle.rules.specs.Price.{lastBytes, price, askPrice}
 use Rattle.rules.specs.Table.{hyperOf, wiresOf, channelsOf, wireAt, codeOf, rateOf, propOf, roomOf, framingAt, payloadAt, periodAt, deadlineAt, hopsAt, routeAt, channelAt, endOf, fillingOf}
 use Rattle.rules.specs.Reading.{headTests, wireTests, hopTests, recordTests, channelTests, fillingTests, readingTests}
 use Rattle.rules.specs.Bounds.{loadOf, load, along, jitter, shareOf, backlogAfter, delayAfter, delaysBelow, backlog, delay, endToEnd}
 use Rattle.rules.specs.Sheet.{figuresAt, endAt, sheetLength, withHead, withWires, withChannels, sheetOf}
 use Rattle.rules.specs.Judgement.{loadTest, roomTest, deadlineTest, boundsTests, judge, sheet, leaves, buffer}
-use Rattle.rules.specs.Cases.{Case, cases, Same, Hold, MarkedCases, all, _and_, figuresOf, evaluate}
+use Rattle.rules.specs.Cases.{Case, caseA, caseA90, cases, Same, Hold, MarkedCases, all, _and_, figuresOf, evaluate}
 
 -- Case by case and figure by figure: where one differs, the refusal names it.
 abbrev Each : List Case → Type 0
@@ -28,3 +29,14 @@ each-holds =
 
 pub marked-cases : MarkedCases
 marked-cases = hold cases each-holds
+
+-- The first two tables among them.
+pub case-a :
+    (judge caseA 12 ≡ granted (12 ∷ []))
+    × (buffer caseA 12 ≡ 0x02 ∷ 0x02 ∷ 0x00 ∷ 0x00 ∷ 0xa8 ∷ 0x00 ∷ 0x00 ∷ 0xa8 ∷ 0x00 ∷ 0x00 ∷ 0x0b ∷ 0x60 ∷ [])
+unfolding evaluate figuresOf
+case-a = let row = each-holds .1 .1 .1 .1 .1 .1 .1 .1 .1 .0 in (row .0, row .5)
+
+pub case-a-90 : (judge caseA90 12 ≡ refused 14 0) × (buffer caseA90 12 ≡ replicate 12 255)
+unfolding evaluate figuresOf
+case-a-90 = let row = each-holds .1 .1 .1 .1 .1 .1 .1 .1 .1 .1 .0 in (row .0, row .5)
