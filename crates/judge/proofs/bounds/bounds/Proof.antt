@@ -16,7 +16,7 @@ use Rattle.rules.proofs.ReadingLaws.{granted-sound}
 use Rattle.rules.proofs.Columns.{length-column}
 use Rattle.table.specs.Stages.{after}
 use Rattle.table.proofs.Answers.{refusal, read-of}
-use Rattle.judge.specs.Figures.{part, FiledBelow, WorkedOut}
+use Rattle.judge.specs.Figures.{part, FiledBelow, limitTest, WorkedOut}
 use Rattle.judge.proofs.Filing.{filed-none, filed-stretch}
 use Rattle.judge.proofs.Told.{Told, told}
 use Rattle.judge.proofs.Limits.{load-limit-fits, load-tests, loads-pass, loads-stop, loads-through, rooms-stop, rooms-through, end-limit-fits, end-tests, deadline-lt, if-read}
@@ -79,8 +79,11 @@ module _ (c : tie.After-none-over) where
   abbrev f : tie.After-file
   f = c .before .before .before
 
+  tested : (rest : Reply) → each (limitTest (loads f) (st f .args .t .rate) (st f .args .t .hyper) 12) 0 (st f .args .t .wires) rest ≡ after (c .none-over .result) rest
+  tested = c .none-over .ensures
+
   twelve : (rest : Reply) → each (loadTest (t (st f))) 0 (t (st f) .wires) rest ≡ after (c .none-over .result) rest
-  twelve rest = sym (load-tests (t (st f)) (sound (st f)) (st f .args .t) (as-read (st f)) (list f) (counts f) (loads f) (filed f) rest) ∙ c .none-over .ensures rest
+  twelve rest = sym (load-tests (t (st f)) (sound (st f)) (st f .args .t) (as-read (st f)) (list f) (counts f) (loads f) (filed f) rest) ∙ tested rest
 
 returns : tie.Need-returns
 returns c =
@@ -153,9 +156,16 @@ none-over-requires-2 c κs =
       end-limit-fits (t s) (sound s) (s .args .t) (as-read s) _ (worked e .ends) (deadline-lt (s .args .table .now)),
     )
 
+module _ (c : tie.After-none-over2) where
+  abbrev e : tie.After-enum-told4
+  e = c .before .before .before .before .before .before
+
+  tested-ends : (rest : Reply) → each (limitTest (w e .walk .result .end) (s e .args .t .deadline) 1 14) 0 (s e .args .t .channels) rest ≡ after (c .none-over2 .result) rest
+  tested-ends = c .none-over2 .ensures
+
 returns-3 : tie.Need-returns-3
 returns-3 c =
-    let e = c .before .before .before .before .before .before in
+    let e = e c in
     let w = w e in
     let s = s e in
     let r = w .walk .result in
@@ -164,7 +174,7 @@ returns-3 c =
       λ rest.
           rooms-through (t s) _ (twelve (n w)) (pass w) _ (w .walk .ensures .0) (e .enum-told4 .given .1) rest
           ∙ sym (end-tests (t s) (sound s) (s .args .t) (as-read s) (r .end) (worked e .ends) rest)
-          ∙ c .none-over2 .ensures rest,
+          ∙ tested-ends c rest,
       if-read _ (c .none-over2 .result) done,
     )
 

@@ -161,7 +161,7 @@ module _ (c : tie.After-slots Inv-loop μ-loop) where
   told-delay = c .slots .ensures ∙ ap₂ up (told-backlog (c .before .before)) (told-rate (c .before)) ∙ sym (delay-up (t top3) (w top3))
 
   told-spent : c .slots .result + getD (st top3 .args .t .prop) (w top3) 0 ≡ spent (t top3) (w top3)
-  told-spent = ap₂ (λ (x y : ℕ). x + y) told-delay (told-prop (c .before))
+  told-spent = omega (arith, told-delay, told-prop (c .before))
 
   late-lt : late (t top3) (w top3) < 2 ^ 24
   late-lt = omega (arith, delay-lt (c .before))
@@ -204,7 +204,7 @@ module _ (c : tie.After-less-one Inv-loop μ-loop) where
   r = c .before .before
 
   told-late : c .less-one .result ≡ late (t (top3 r)) (w (top3 r))
-  told-late = c .less-one .ensures ∙ ap (λ (x : ℕ). x - 1) (told-delay r)
+  told-late = omega (arith, c .less-one .ensures, told-delay r)
 
 raise-requires : tie.Need-raise-requires Inv-loop μ-loop
 raise-requires c κs =
