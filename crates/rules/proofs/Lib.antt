@@ -28,3 +28,4 @@ pub mod Sums
 pub mod Tests
 pub mod Witnesses
 pub mod Written
+pub mod Replays

@@ -83,7 +83,7 @@ last-first-any slot w fs =
     any-order-complete fs (backwards fs) (λ f. backwards-total (λ (x : Frame). only (same f x) 1) fs)
 
 -- what the computations below see through
-definitions : Unit {0}
+unfoldable pub definitions : Unit {0}
 unfolding bit field sum total has test each lastBytes price hyperOf wiresOf channelsOf wireAt codeOf rateOf propOf roomOf framingAt payloadAt periodAt deadlineAt hopsAt routeAt channelAt endOf fillingOf headTests wireTests hopTests recordTests channelTests fillingTests readingTests loadOf load along jitter shareOf backlogAfter delayAfter delaysBelow backlog delay endToEnd figuresAt endAt sheetLength loadTest roomTest deadlineTest boundsTests judge listed gathered lastFrame frames message ofChannel bornIn after source reaching dueFrom due sent kept bytes lastWire delivered arrivals step played periodic backwards
 definitions = tt
 
