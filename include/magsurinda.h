@@ -2,7 +2,7 @@
 
    Every function takes any bytes and numbers and always replies. What the caller ensures: each pointer is good for the
    length given with it, and the buffers of one call do not overlap. A NULL pointer is allowed where the length is 0.
-   No function keeps a pointer, allocates, or calls anything.
+   No function keeps a pointer or allocates. The archive needs memcpy and memset of the C library, and nothing else.
 
    The reply, in 64 bits: refusal number * 2^56 + place * 2^48 + value. The number is 0 where the question is granted;
    the value is 0 where it is refused. README.md has the refusals. */

@@ -52,12 +52,16 @@ pub delay-enough : (t : View) (w : ℕ) → 1 ≤ t .rate w → backlog t w ≤ 
 unfolding backlog delay delayAfter
 delay-enough t w l = omega (arith, lt-div-mul-add {a = backlogAfter t (known t w) w + (t .rate w - 1)} {b = t .rate w} l)
 
+-- every price is at least the smallest frame
+pub prices-least : (t : View) → Sound t → (k : ℕ) → k < t .channels → smallFrame ≤ cost t k
+prices-least t sound k l = price-least (t .framing k) (t .payload k) (sound .framing-most k l) (sound .payload-least k l)
+
 -- a wire that a route uses has a delay
 pub delay-least : (t : View) → Sound t → (w k : ℕ) → w < t .wires → k < t .channels → on t w k ≡ true → 1 ≤ delay t w
 unfolding delay delayAfter backlogAfter shareOf
 delay-least t sound w k lw lk there =
     let shares = sum (shareOf t (known t w) w) (t .channels) in
     let share : cost t k * t .hyper ≤ shareOf t (known t w) w k = rw there (omega arith) in
-    let dear : smallFrame * t .hyper ≤ cost t k * t .hyper = mul-le-mul-right (t .hyper) (price-least (t .framing k) (t .payload k) (sound .framing-most k lk) (sound .payload-least k lk)) in
+    let dear : smallFrame * t .hyper ≤ cost t k * t .hyper = mul-le-mul-right (t .hyper) (prices-least t sound k lk) in
     let some : 1 ≤ shares / t .hyper = le-div-iff-mul-le (sound .hyper-least) .1 (omega (arith, sum-has (shareOf t (known t w) w) (t .channels) k lk)) in
     le-div-iff-mul-le (sound .rate-least w lw) .1 (omega (arith, sound .rate-least w lw))

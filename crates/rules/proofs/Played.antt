@@ -12,23 +12,7 @@ use borrow.Author.Tests.{le-leb, lt-leb}
 use Rattle.rules.specs.Words.{listed, gathered}
 use Rattle.rules.specs.Table.{View, Source, nowhere, release, wire, source}
 use Rattle.rules.specs.Machine.{Frame, Waiting, Releases, Gone, ofChannel, reaching, dueFrom, due, AnyOrder, sent, kept, joined, sending, Run, Order, queueIn, goneIn, arrivals, step, played}
-
-length-listed : {A : Type 0} (f : ℕ → A) (n : ℕ) → length (listed f n) ≡ n
-unfolding listed
-length-listed f zero = refl
-length-listed f (suc n) = rw length-append (omega (arith, length-listed f n))
-
-getD-listed : {A : Type 0} (f : ℕ → A) (n i : ℕ) (d : A) → i < n → getD (listed f n) i d ≡ f i
-unfolding listed
-getD-listed f zero i d l = absurd (omega arith)
-getD-listed f (suc n) i d l =
-    elim (ℕ-discrete i n) [
-      | yes e ↦
-          (let at : i ≡ length (listed f n) + 0 = omega (arith, length-listed f n) in
-          ap (λ (x : ℕ). getD (listed f n ++ (f n ∷ [])) x d) at ∙ getD-append-add (listed f n) (f n ∷ []) 0 d ∙ ap f (sym e))
-      | no other ↦
-          List·getD-append (listed f n) (f n ∷ []) d i (omega (arith, length-listed f n)) ∙ getD-listed f n i d (omega arith)
-    ]
+use Rattle.rules.proofs.Columns.{length-listed, getD-listed}
 
 gathered-same : {A : Type 0} (f g : ℕ → List A) (n : ℕ) → ((i : ℕ) → f i ≡ g i) → gathered f n ≡ gathered g n
 unfolding gathered

@@ -18,7 +18,7 @@ use Rattle.rules.specs.Bounds.{loadOf, load, along, jitter, shareOf, bac
 use Rattle.rules.specs.Sheet.{figuresAt, endAt, sheetLength}
 use Rattle.rules.specs.Judgement.{loadTest, roomTest, deadlineTest, boundsTests, judge}
 use Rattle.rules.specs.Machine.{Frame, Releases, Keeps, message, ofChannel, bornIn, reaching, dueFrom, due, AnyOrder, none, more, here, sent, kept, bytes, Run, unsent, delivered, Order, arrivals, step, played}
-use Rattle.rules.specs.Cases.{caseA}
+use Rattle.rules.specs.Cases.{caseA, caseB}
 use Rattle.rules.proofs.Sums.{total-append}
 use Rattle.rules.proofs.Orders.{same, any-order-complete}
 use Rattle.rules.proofs.Played.{played-run}
@@ -170,6 +170,11 @@ two-part = refl
 pub two-whole : delivered (viewOf twoFrames) (runTwo .gone) 0 0 41 ≡ message (viewOf twoFrames) (periodic (viewOf twoFrames)) 0 0
 unfolding definitions
 two-whole = refl
+
+-- Three thirds of a wire are its whole load: case B.
+pub b-load : load (viewOf caseB) 0 ≡ 252
+unfolding definitions
+b-load = refl
 
 -- A load one over: H 85, rate 1, one message of 86 bytes in 85 slots.
 pub over : List ℕ
