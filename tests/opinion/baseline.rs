@@ -78,17 +78,17 @@ impl Writer<'_> {
 
 // ---- the price ----
 
-const FRAMINGS: [(u64, u64, u64); 2] = [(1_492, 46, 38), (1_464, 74, 10)];
+const FRAMINGS: [(u64, u64, u64); 2] = [(1_492, 50, 38), (1_464, 78, 10)];
 
 #[inline(always)]
 fn price_of(framing: usize, payload: u64) -> u64 {
     let (data, overhead, least) = FRAMINGS[framing];
-    let full = payload / data * 1_538;
+    let full = payload / data * 1_542;
     let rest = payload % data;
     if rest == 0 {
         full
     } else if rest < least {
-        full + 84
+        full + 88
     } else {
         full + rest + overhead
     }

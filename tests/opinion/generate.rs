@@ -3,6 +3,10 @@
 use crate::opinion::{self, Figures, Table};
 use crate::rng::Rng;
 
+const FULL: u64 = opinion::FULL_FRAME as u64;
+const SMALL_COST: u64 = opinion::SMALL_FRAME as u64;
+const PLAIN_DATA: u64 = opinion::FRAMINGS[0].data as u64;
+const PLAIN_OVERHEAD: u64 = opinion::FRAMINGS[0].overhead as u64;
 const MOST_ROOM: u64 = (1 << 24) - 1;
 const MOST_DEADLINE: u64 = (1 << 24) - 1;
 
@@ -159,9 +163,9 @@ impl Hyperperiod {
     }
 }
 
-const HYPERPERIODS: [u64; 22] = [
-    1, 2, 4, 12, 60, 84, 97, 252, 840, 1_000, 2_520, 5_040, 12_500, 27_720, 100_000, 720_720, 1_048_576, 6_250_000,
-    8_388_608, 12_252_240, 12_499_999, 12_500_000,
+const HYPERPERIODS: [u64; 23] = [
+    1, 2, 4, 12, 60, 88, 97, 264, 840, 880, 1_000, 2_520, 5_040, 12_500, 27_720, 100_000, 720_720, 1_048_576,
+    6_250_000, 8_388_608, 12_252_240, 12_499_999, 12_500_000,
 ];
 
 pub fn hyperperiods(rng: &mut Rng) -> Vec<Hyperperiod> {
@@ -309,7 +313,7 @@ pub fn full(rng: &mut Rng) -> Draft {
     let rate = [1, 10, 100][code as usize];
     let count = rng.range(1, 6);
     let mut factors: Vec<u64> = (0..count).map(|_| rng.pick(&[1, 1, 2, 3, 4, 6])).collect();
-    let mut parts: Vec<u64> = (0..count).map(|_| rng.range(84, 200)).collect();
+    let mut parts: Vec<u64> = (0..count).map(|_| rng.range(SMALL_COST, 200)).collect();
     factors[0] = 1;
     parts[0] += (rate - parts.iter().sum::<u64>() % rate) % rate;
     let period = parts.iter().sum::<u64>() / rate;
@@ -317,7 +321,7 @@ pub fn full(rng: &mut Rng) -> Draft {
     let wires = rng.range(1, 5);
     let channels = factors.iter().zip(&parts).map(|(factor, part)| DraftChannel {
         framing: 0,
-        payload: factor * part - 46,
+        payload: factor * part - PLAIN_OVERHEAD,
         period: factor * period,
         deadline: MOST_DEADLINE,
         hops: wires,
@@ -351,8 +355,8 @@ pub const FOR_MACHINE: Shape = Shape {
 pub const EIGHT_HOPS: Shape = Shape { wires: (8, 10), channels: (2, 6), hops: (8, 8), ..FOR_MACHINE };
 
 /// Tables in which a figure with jitter can be reached exactly. Each of the first wires, of rate
-/// 100, holds a message of 84 bytes back for exactly one period, 1 to 16 bytes of it going in the
-/// slot in which the next one comes and goes whole; all of them then meet on one later wire.
+/// 100, holds a smallest frame back for exactly one period, 1 to 12 bytes of it going in the slot in
+/// which the next one comes and goes whole; all of them then meet on one later wire.
 pub fn meeting(rng: &mut Rng) -> Draft {
     let hyperperiod = Hyperperiod::of(rng.pick(&[120, 240, 360, 840, 2_520]));
     let count = rng.range(1, 4);
@@ -372,7 +376,7 @@ pub fn meeting(rng: &mut Rng) -> Draft {
         let mut route = vec![first, count];
         route.extend((count + 1..count + 1 + further).filter(|_| rng.chance(1, 2)));
         draft.channels.push(plain_channel(1, period, route));
-        let held_back = 100 * period + rng.range(1, 16) - 84;
+        let held_back = 100 * period + rng.range(1, 100 - SMALL_COST) - SMALL_COST;
         for payload in fillers(rng, held_back) {
             draft.channels.push(plain_channel(payload, hyperperiod.slots, vec![first]));
         }
@@ -396,14 +400,14 @@ pub fn plain_channel(payload: u64, period: u64, route: Vec<u64>) -> DraftChannel
 /// Payloads whose plain prices sum to `bytes`: one message, of several frames where need be, or two.
 fn fillers(rng: &mut Rng, bytes: u64) -> Vec<u64> {
     if bytes >= 200 && rng.chance(1, 2) {
-        let part = rng.range(84, (bytes - 84).min(1_538));
+        let part = rng.range(SMALL_COST, (bytes - SMALL_COST).min(FULL));
         return [fillers(rng, part), fillers(rng, bytes - part)].concat();
     }
-    let full = bytes / 1_538;
-    match bytes % 1_538 {
-        0 => vec![1_492 * full],
-        rest if rest >= 84 => vec![1_492 * full + rest - 46],
-        rest => vec![1_492 * (full - 1) + (1_538 + rest - 84) - 46, 1],
+    let full = bytes / FULL;
+    match bytes % FULL {
+        0 => vec![PLAIN_DATA * full],
+        rest if rest >= SMALL_COST => vec![PLAIN_DATA * full + rest - PLAIN_OVERHEAD],
+        rest => vec![PLAIN_DATA * (full - 1) + (FULL + rest - SMALL_COST) - PLAIN_OVERHEAD, 1],
     }
 }
 

@@ -66,7 +66,7 @@ impl Observed {
 
 /// The frames of a message.
 pub fn frames(framing: usize, payload: u64) -> Vec<u64> {
-    let (data, overhead, least) = [(1_492, 46, 38), (1_464, 74, 10)][framing];
+    let (data, overhead, least) = [(1_492, 50, 38), (1_464, 78, 10)][framing];
     let mut left = payload;
     let mut sizes = Vec::new();
     while left > 0 {

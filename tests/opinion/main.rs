@@ -19,7 +19,8 @@ use ffi::Face;
 use std::process::exit;
 
 const USAGE: &str = "\
-opinion vectors FILE     the outside vectors, answered by the second opinion and by the face
+opinion vectors FILE TABLES
+                         the outside vectors and a folder of tables, answered by the second opinion and by the face
 opinion compare [OPTIONS]  the face compared with the second opinion on generated tables
     --seed S             another seed; --tables N   more tables
     --reduced N          only N tables, with no demand on their counts
@@ -41,7 +42,7 @@ fn main() {
     let words: Vec<String> = std::env::args().skip(1).collect();
     let words: Vec<&str> = words.iter().map(String::as_str).collect();
     match words[..] {
-        ["vectors", file] => run_vectors(file),
+        ["vectors", file, tables] => run_vectors(file, tables),
         ["compare", ref rest @ ..] => run_compare(rest),
         ["machine", ref rest @ ..] => run_machine(rest),
         ["bench", ref rest @ ..] => run_bench(rest),
@@ -94,18 +95,20 @@ impl Options<'_> {
     }
 }
 
-fn run_vectors(file: &str) {
+fn run_vectors(file: &str, tables: &str) {
     let face = ffi::built_for();
     let text = std::fs::read_to_string(file).unwrap_or_else(|why| {
         eprintln!("opinion: {file}: {why}");
         exit(2)
     });
-    let result = vectors::document_cases(face.as_ref()).and_then(|()| vectors::run(&text, face.as_ref()));
-    match result {
-        Ok(kinds) if kinds.values().sum::<usize>() < vectors::LINES => fail(4, &format!("vectors: too few: {kinds:?}")),
-        Ok(kinds) => println!("vectors: {kinds:?} agree: the second opinion and {}", face.name()),
-        Err(why) => fail(1, &format!("vectors: {why}")),
+    let told = |why: String| -> ! { fail(1, &format!("vectors: {why}")) };
+    vectors::document_prices(face.as_ref()).unwrap_or_else(|why| told(why));
+    let shipped = vectors::shipped_tables(tables, face.as_ref()).unwrap_or_else(|why| told(why));
+    let kinds = vectors::run(&text, face.as_ref()).unwrap_or_else(|why| told(why));
+    if kinds.values().sum::<usize>() < vectors::LINES || shipped < vectors::TABLES {
+        fail(4, &format!("vectors: too few: {kinds:?}, {shipped} shipped tables"));
     }
+    println!("vectors: {kinds:?} and {shipped} shipped tables agree: the second opinion and {}", face.name());
 }
 
 fn run_compare(words: &[&str]) {

@@ -1,4 +1,4 @@
-//! The second opinion: the rules of document 01, written from that document alone.
+//! The second opinion: the rules of document 01 and of request Q-2, written from those documents alone.
 //!
 //! It goes about the work by other means than the proved code: the bits are spread out into a list,
 //! a table is decoded into structs, and all arithmetic has 128 bits.
@@ -73,21 +73,23 @@ fn packed(mut list: Vec<bool>) -> Vec<u8> {
 
 // ---- the price of a message ----
 
-struct Framing {
-    data: u128,
-    overhead: u128,
-    least: u128,
+pub struct Framing {
+    pub data: u128,
+    pub overhead: u128,
+    pub least: u128,
 }
 
-const FRAMINGS: [Framing; 2] =
-    [Framing { data: 1_492, overhead: 46, least: 38 }, Framing { data: 1_464, overhead: 74, least: 10 }];
+pub const FRAMINGS: [Framing; 2] =
+    [Framing { data: 1_492, overhead: 50, least: 38 }, Framing { data: 1_464, overhead: 78, least: 10 }];
+pub const FULL_FRAME: u128 = 1_542;
+pub const SMALL_FRAME: u128 = 88;
 
 fn price_of(framing: usize, payload: u128) -> u128 {
     let row = &FRAMINGS[framing];
-    let full = payload / row.data * 1_538;
+    let full = payload / row.data * FULL_FRAME;
     match payload % row.data {
         0 => full,
-        rest if rest < row.least => full + 84,
+        rest if rest < row.least => full + SMALL_FRAME,
         rest => full + rest + row.overhead,
     }
 }

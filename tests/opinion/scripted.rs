@@ -51,9 +51,9 @@ fn scripts() -> [Script; 4] {
             draft: draft(
                 12,
                 &[(2, 0), (2, 0)],
-                &[(1, 6, &[0, 1]), (39, 12, &[0, 1]), (70, 12, &[0]), (70, 12, &[0, 1]), (1, 4, &[1])],
+                &[(1, 6, &[0, 1]), (39, 12, &[0, 1]), (62, 12, &[0]), (62, 12, &[0, 1]), (1, 4, &[1])],
             ),
-            releases: &[(0, 3, 70), (0, 0, 1), (0, 2, 70), (0, 1, 39), (2, 4, 1)],
+            releases: &[(0, 3, 62), (0, 0, 1), (0, 2, 62), (0, 1, 39), (2, 4, 1)],
             orders: &[(2, 1, &[(4, 2), (0, 0), (3, 0)])],
         },
         Script {
@@ -137,12 +137,12 @@ fn list(frames: &[Frame]) -> String {
 pub fn check_outside_run() -> Result<(), String> {
     let [.., script] = scripts();
     let bytes = script.draft.encode();
-    if hex::show(&bytes) != "00000404050000001930000001500001000002000005200100238000020000018800" {
+    if hex::show(&bytes) != "00000404050000001a30000001600001000002000005200100238000020000018800" {
         return Err(format!("another table: {}", hex::show(&bytes)));
     }
     let accepted = opinion::verdict(&bytes, usize::MAX).expect("an accepted table");
     let observed = script.run(&accepted.table, &mut |_| {});
-    if (observed.held[1], observed.ends[0]) == (168, 5) {
+    if (observed.held[1], observed.ends[0]) == (176, 5) {
         Ok(())
     } else {
         Err(format!("the figures of a later wire are not reached: {observed:?}"))

@@ -8,6 +8,8 @@ use std::collections::BTreeMap;
 
 /// Lines that a whole file of vectors has.
 pub const LINES: usize = 700;
+/// Tables that are shipped at least.
+pub const TABLES: usize = 10;
 
 /// Runs a file of vectors; returns how many lines of each kind there were, or the first wrong line.
 pub fn run(text: &str, face: &dyn Face) -> Result<BTreeMap<String, usize>, String> {
@@ -128,67 +130,30 @@ fn board_by(table: &[u8], face: &dyn Face) -> String {
     text
 }
 
-const DOCUMENT_004: &str = "0030d4100800000200000000200000000200000000200000000200000000200000000200000000200002430030d400186a2006012180186a000c3510230013c001388001388811c038c00138800222e41880";
-
-const LATE_CHANNEL: &str = "0030d4142400002000000002000000002000000002000000002000000002000000002000000002000000002000000002000005d40030d400f424200902ea00186a007a1210248175000c35003d09082240ba80061a801e848419205d40030d400f424210902ea00186a007a1210a48175000c35003d09086240ba80061a801e848439228cc0030d400f42410051980061a801e848208a33000c35003d09042146600186a007a1208628cc0030d400f42411051980061a801e848228a33000c35003d09046146600186a007a1208e00010030d40069782209146600186a007a120900";
-
-/// The figures that document 01 gives to check by, those that are not among the vectors' kinds.
-pub fn document_cases(face: &dyn Face) -> Result<(), String> {
-    let cases = [
-        ("000348020200e0000a8000100005400005b100", "accepted 1 1\nlink 0 84 84\nchannel 0 91 91\n"),
-        (
-            "0000fc02060000001f800010000fc0003e810000020001f80007d020000040003f0000fa0400",
-            "accepted 1 3\nlink 0 252 252\nchannel 0 252 1000\nchannel 1 252 1000\nchannel 2 252 1000\n",
-        ),
-        (
-            "000348040600e004e2000e004e200001000348002710200100008001a4001388100080004000690009c40410",
-            "accepted 2 3\nlink 0 168 168\nlink 1 285 285\nchannel 0 467 10000\nchannel 1 467 10000\nchannel 2 292 10000\n",
-        ),
-        (
-            "000348040600e004e2080e004e200001000348002710200100008001a4001388100080004000690009c40410",
-            "accepted 2 3\nlink 0 168 168\nlink 1 285 29\nchannel 0 211 10000\nchannel 1 211 10000\nchannel 2 36 10000\n",
-        ),
-        (
-            "00000404050000001930000001500001000002000005200100238000020000018800",
-            "accepted 2 2\nlink 0 201 3\nlink 1 168 2\nchannel 0 5 5\nchannel 1 3 3\n",
-        ),
-    ];
-    for (table, expected) in cases {
-        let table = bytes(table)?;
-        for text in [opinion::board(&table), board_by(&table, face)] {
-            if text != expected {
-                return Err(format!("{}: {text} and not {expected}", hex::show(&table)));
+/// The shipped tables: every `NAME.table` of a folder gets the board's text in `NAME.expected`. Returns how many.
+pub fn shipped_tables(folder: &str, face: &dyn Face) -> Result<usize, String> {
+    let of = |path: &std::path::Path| std::fs::read(path).map_err(|why| format!("{}: {why}", path.display()));
+    let entries = std::fs::read_dir(folder).map_err(|why| format!("{folder}: {why}"))?;
+    let mut count = 0;
+    for path in entries.map_while(Result::ok).map(|entry| entry.path()) {
+        if path.extension().is_some_and(|suffix| suffix == "table") {
+            let (table, expected) = (of(&path)?, of(&path.with_extension("expected"))?);
+            for text in [opinion::board(&table), board_by(&table, face)] {
+                if text.as_bytes() != expected {
+                    return Err(format!("{}: {text}", path.display()));
+                }
             }
+            count += 1;
         }
     }
-    outside_tables(face)?;
-    document_prices(face)
+    Ok(count)
 }
 
-/// The two longer tables that come with the vectors: document 004's, and the late channel.
-fn outside_tables(face: &dyn Face) -> Result<(), String> {
-    let table = bytes(DOCUMENT_004)?;
-    let backlogs = [625, 750, 0, 500, 599, 0, 1_318, 199];
-    let ends = [1_943, 2_068, 949, 1_099];
-    let mut sheet = [0; 834];
-    let length = face.judge(&table, &mut sheet) as usize;
-    let Ok(accepted) = opinion::verdict(&table, 834) else { return Err("document 004's table is refused".to_string()) };
-    let of_opinion = accepted.figures.backlogs == backlogs && accepted.figures.ends == ends;
-    let of_face = length == accepted.sheet.len() && sheet[..length] == accepted.sheet[..];
-    if !of_opinion || !of_face {
-        return Err("document 004's table has other figures".to_string());
-    }
-    let table = bytes(LATE_CHANNEL)?;
-    match [opinion::board(&table), board_by(&table, face)] {
-        [first, second] if first == second && first == "refused 14 16\n" => Ok(()),
-        others => Err(format!("the late channel: {others:?}")),
-    }
-}
-
-fn document_prices(face: &dyn Face) -> Result<(), String> {
+/// The prices that document 01 and request Q-2 give to check by.
+pub fn document_prices(face: &dyn Face) -> Result<(), String> {
     let plain =
-        [(1, 84), (37, 84), (38, 84), (39, 85), (1_492, 1_538), (1_493, 1_622), (1_530, 1_622), (65_535, 67_559)];
-    let udp = [(10, 84), (11, 85), (1_465, 1_622)];
+        [(1, 88), (37, 88), (38, 88), (39, 89), (1_492, 1_542), (1_493, 1_630), (1_530, 1_630), (65_535, 67_735)];
+    let udp = [(10, 88), (11, 89), (1_465, 1_630)];
     let all = plain.iter().map(|p| (0, p)).chain(udp.iter().map(|p| (1, p)));
     for (framing, &(payload, cost)) in all {
         let opinion = ffi::figure_reply(&opinion::price(framing, payload));

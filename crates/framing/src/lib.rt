@@ -13,19 +13,19 @@ use rules::Table;
 const ROWS: [Row; 2] = [
     Row {
         most: 1492,
-        overhead: 46,
+        overhead: 50,
         least: 38,
     },
     Row {
         most: 1464,
-        overhead: 74,
+        overhead: 78,
         least: 10,
     },
 ];
 
-const FULL_FRAME: u64 = 1538;
+const FULL_FRAME: u64 = 1542;
 
-const SMALL_FRAME: u64 = 84;
+const SMALL_FRAME: u64 = 88;
 
 // By rate code.
 const RATES: [u64; 3] = [1, 10, 100];

@@ -14,11 +14,11 @@ use Rattle.rules.specs.declared.Judging.the-variants as judging
 use Rattle.rules.specs.Replies.{judgingReply}
 use Rattle.rules.specs.Table.{viewOf}
 use Rattle.rules.specs.Judgement.{judge as judged, buffer}
-use Rattle.rules.specs.Cases.{caseA, caseA90}
+use Rattle.rules.specs.Cases.{caseA, caseASheet, caseALate}
 use Rattle.rules.specs.Machine.{Releases, Keeps, Run}
 use Rattle.rules.specs.Promise.{Promised}
 use Rattle.rules.proofs.Replies.{judging-one}
-use Rattle.rules.proofs.Cases.{case-a, case-a-90}
+use Rattle.rules.proofs.Cases.{case-a, case-a-late}
 use Rattle.rules.proofs.Promised.{promise}
 use Rattle.judge.proofs.judge as judge
 use Rattle.judge.proofs.judge.Kinds as judge-kinds
@@ -47,11 +47,9 @@ module _ (κs : Lfts 2) (a : ArgsD judge.signature κs) (r : ResD judge.signatur
 
   -- Refusing everything, one fixed reply and an untouched sheet do not meet the contract.
   pub case-a-forced :
-      table ≡ caseA → length (now (a .1 .0)) ≡ 12 →
-      (r ≡ judging.Accepted 12)
-      × (left ≡ 0x02 ∷ 0x02 ∷ 0x00 ∷ 0x00 ∷ 0xa8 ∷ 0x00 ∷ 0x00 ∷ 0xa8 ∷ 0x00 ∷ 0x00 ∷ 0x0b ∷ 0x60 ∷ [])
+      table ≡ caseA → length (now (a .1 .0)) ≡ 12 → (r ≡ judging.Accepted 12) × (left ≡ caseASheet)
   case-a-forced is long = forced caseA 12 (judging.Accepted 12) _ is long case-a
 
-  pub case-a-90-forced :
-      table ≡ caseA90 → length (now (a .1 .0)) ≡ 12 → (r ≡ judging.Refused 14 0) × (left ≡ replicate 12 255)
-  case-a-90-forced is long = forced caseA90 12 (judging.Refused 14 0) _ is long case-a-90
+  pub case-a-late-forced :
+      table ≡ caseALate → length (now (a .1 .0)) ≡ 12 → (r ≡ judging.Refused 14 0) × (left ≡ replicate 12 255)
+  case-a-late-forced is long = forced caseALate 12 (judging.Refused 14 0) _ is long case-a-late

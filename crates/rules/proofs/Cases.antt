@@ -11,7 +11,7 @@ use Rattle.rules.specs.Reading.{headTests, wireTests, hopTests, recordTe
 use Rattle.rules.specs.Bounds.{loadOf, load, along, jitter, shareOf, backlogAfter, delayAfter, delaysBelow, backlog, delay, endToEnd}
 use Rattle.rules.specs.Sheet.{figuresAt, endAt, sheetLength, withHead, withWires, withChannels, sheetOf}
 use Rattle.rules.specs.Judgement.{loadTest, roomTest, deadlineTest, boundsTests, judge, sheet, leaves, buffer}
-use Rattle.rules.specs.Cases.{Case, caseA, caseA90, cases, Same, Hold, MarkedCases, all, _and_, figuresOf, evaluate}
+use Rattle.rules.specs.Cases.{Case, caseA, caseASheet, caseALate, cases, Same, Hold, MarkedCases, all, _and_, figuresOf, evaluate}
 
 -- Case by case and figure by figure: where one differs, the refusal names it.
 abbrev Each : List Case → Type 0
@@ -25,18 +25,16 @@ hold (c ∷ cs) e = e .0 and hold cs (e .1)
 each-holds : Each cases
 unfolding bit field putBit putField sum total has test each lastBytes price askPrice hyperOf wiresOf channelsOf wireAt codeOf rateOf propOf roomOf framingAt payloadAt periodAt deadlineAt hopsAt routeAt channelAt endOf fillingOf headTests wireTests hopTests recordTests channelTests fillingTests readingTests loadOf load along jitter shareOf backlogAfter delayAfter delaysBelow backlog delay endToEnd figuresAt endAt sheetLength withHead withWires withChannels sheetOf loadTest roomTest deadlineTest boundsTests judge sheet leaves buffer listed figuresOf evaluate
 each-holds =
-    ((refl, refl, refl, refl, refl, refl), ((refl, refl, refl, refl, refl, refl), ((refl, refl, refl, refl, refl, refl), ((refl, refl, refl, refl, refl, refl), ((refl, refl, refl, refl, refl, refl), ((refl, refl, refl, refl, refl, refl), ((refl, refl, refl, refl, refl, refl), ((refl, refl, refl, refl, refl, refl), ((refl, refl, refl, refl, refl, refl), ((refl, refl, refl, refl, refl, refl), ((refl, refl, refl, refl, refl, refl), ((refl, refl, refl, refl, refl, refl), ((refl, refl, refl, refl, refl, refl), ((refl, refl, refl, refl, refl, refl), ((refl, refl, refl, refl, refl, refl), ((refl, refl, refl, refl, refl, refl), tt))))))))))))))))
+    ((refl, refl, refl, refl, refl, refl), ((refl, refl, refl, refl, refl, refl), ((refl, refl, refl, refl, refl, refl), ((refl, refl, refl, refl, refl, refl), ((refl, refl, refl, refl, refl, refl), ((refl, refl, refl, refl, refl, refl), ((refl, refl, refl, refl, refl, refl), ((refl, refl, refl, refl, refl, refl), ((refl, refl, refl, refl, refl, refl), ((refl, refl, refl, refl, refl, refl), ((refl, refl, refl, refl, refl, refl), ((refl, refl, refl, refl, refl, refl), ((refl, refl, refl, refl, refl, refl), ((refl, refl, refl, refl, refl, refl), ((refl, refl, refl, refl, refl, refl), ((refl, refl, refl, refl, refl, refl), ((refl, refl, refl, refl, refl, refl), tt)))))))))))))))))
 
 pub marked-cases : MarkedCases
 marked-cases = hold cases each-holds
 
 -- The first two tables among them.
-pub case-a :
-    (judge caseA 12 ≡ granted (12 ∷ []))
-    × (buffer caseA 12 ≡ 0x02 ∷ 0x02 ∷ 0x00 ∷ 0x00 ∷ 0xa8 ∷ 0x00 ∷ 0x00 ∷ 0xa8 ∷ 0x00 ∷ 0x00 ∷ 0x0b ∷ 0x60 ∷ [])
+pub case-a : (judge caseA 12 ≡ granted (12 ∷ [])) × (buffer caseA 12 ≡ caseASheet)
 unfolding evaluate figuresOf
 case-a = let row = each-holds .1 .1 .1 .1 .1 .1 .1 .1 .1 .0 in (row .0, row .5)
 
-pub case-a-90 : (judge caseA90 12 ≡ refused 14 0) × (buffer caseA90 12 ≡ replicate 12 255)
+pub case-a-late : (judge caseALate 12 ≡ refused 14 0) × (buffer caseALate 12 ≡ replicate 12 255)
 unfolding evaluate figuresOf
-case-a-90 = let row = each-holds .1 .1 .1 .1 .1 .1 .1 .1 .1 .1 .0 in (row .0, row .5)
+case-a-late = let row = each-holds .1 .1 .1 .1 .1 .1 .1 .1 .1 .1 .0 in (row .0, row .5)

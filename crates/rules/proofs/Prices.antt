@@ -103,7 +103,7 @@ price-least framing payload h l = omega (arith, price-one framing h, price-grows
 
 -- and at most what the largest payload costs with IP and UDP
 abbrev pub priceMost : ℕ
-priceMost = 68865
+priceMost = 69045
 
 pub most-reached : price 1 payloadMost ≡ priceMost
 unfolding price lastBytes

@@ -74,48 +74,48 @@ replay t released lines = linesFrom t released (orderOf lines) (length lines) 0 
 
 -- A message of two frames, and a shorter one between them on wire 1.
 table1 : List ℕ
-table1 = 0x00 ∷ 0x00 ∷ 0x64 ∷ 0x04 ∷ 0x05 ∷ 0x00 ∷ 0x20 ∷ 0x00 ∷ 0xca ∷ 0xd0 ∷ 0x04 ∷ 0x00 ∷ 0x0f ∷ 0x7c ∷ 0x05 ∷ 0xd5 ∷ 0x00 ∷ 0x00 ∷ 0x64 ∷ 0x00 ∷ 0x00 ∷ 0x28 ∷ 0x20 ∷ 0x01 ∷ 0x00 ∷ 0x1b ∷ 0x80 ∷ 0x00 ∷ 0x19 ∷ 0x00 ∷ 0x00 ∷ 0x0b ∷ 0x08 ∷ 0x20 ∷ []
+table1 = 0x00 ∷ 0x00 ∷ 0x64 ∷ 0x04 ∷ 0x05 ∷ 0x00 ∷ 0x20 ∷ 0x00 ∷ 0xcb ∷ 0xd0 ∷ 0x04 ∷ 0x00 ∷ 0x0f ∷ 0x96 ∷ 0x05 ∷ 0xd5 ∷ 0x00 ∷ 0x00 ∷ 0x64 ∷ 0x00 ∷ 0x00 ∷ 0x28 ∷ 0x20 ∷ 0x01 ∷ 0x00 ∷ 0x1b ∷ 0x80 ∷ 0x00 ∷ 0x19 ∷ 0x00 ∷ 0x00 ∷ 0x0b ∷ 0x08 ∷ 0x20 ∷ []
 
 releases1 : List Release
 releases1 = release 0 0 1493 ∷ release 18 1 55 ∷ []
 
 lines1 : List (List Line)
 lines1 =
-    (line (frame 0 0 1538 ∷ frame 0 0 84 ∷ []) 1622 ([]) ∷ line ([]) 0 ([]) ∷ [])
-    ∷ (line ([]) 1522 ([]) ∷ line ([]) 0 ([]) ∷ [])
-    ∷ (line ([]) 1422 ([]) ∷ line ([]) 0 ([]) ∷ [])
-    ∷ (line ([]) 1322 ([]) ∷ line ([]) 0 ([]) ∷ [])
-    ∷ (line ([]) 1222 ([]) ∷ line ([]) 0 ([]) ∷ [])
-    ∷ (line ([]) 1122 ([]) ∷ line ([]) 0 ([]) ∷ [])
-    ∷ (line ([]) 1022 ([]) ∷ line ([]) 0 ([]) ∷ [])
-    ∷ (line ([]) 922 ([]) ∷ line ([]) 0 ([]) ∷ [])
-    ∷ (line ([]) 822 ([]) ∷ line ([]) 0 ([]) ∷ [])
-    ∷ (line ([]) 722 ([]) ∷ line ([]) 0 ([]) ∷ [])
-    ∷ (line ([]) 622 ([]) ∷ line ([]) 0 ([]) ∷ [])
-    ∷ (line ([]) 522 ([]) ∷ line ([]) 0 ([]) ∷ [])
-    ∷ (line ([]) 422 ([]) ∷ line ([]) 0 ([]) ∷ [])
-    ∷ (line ([]) 322 ([]) ∷ line ([]) 0 ([]) ∷ [])
-    ∷ (line ([]) 222 ([]) ∷ line ([]) 0 ([]) ∷ [])
-    ∷ (line ([]) 122 (frame 0 0 1538 ∷ []) ∷ line ([]) 0 ([]) ∷ [])
-    ∷ (line ([]) 22 (frame 0 0 84 ∷ []) ∷ line ([]) 0 ([]) ∷ [])
-    ∷ (line ([]) 0 ([]) ∷ line (frame 0 0 1538 ∷ []) 1538 ([]) ∷ [])
-    ∷ (line ([]) 0 ([]) ∷ line (frame 1 18 101 ∷ frame 0 0 84 ∷ []) 1623 ([]) ∷ [])
-    ∷ (line ([]) 0 ([]) ∷ line ([]) 1523 ([]) ∷ [])
-    ∷ (line ([]) 0 ([]) ∷ line ([]) 1423 ([]) ∷ [])
-    ∷ (line ([]) 0 ([]) ∷ line ([]) 1323 ([]) ∷ [])
-    ∷ (line ([]) 0 ([]) ∷ line ([]) 1223 ([]) ∷ [])
-    ∷ (line ([]) 0 ([]) ∷ line ([]) 1123 ([]) ∷ [])
-    ∷ (line ([]) 0 ([]) ∷ line ([]) 1023 ([]) ∷ [])
-    ∷ (line ([]) 0 ([]) ∷ line ([]) 923 ([]) ∷ [])
-    ∷ (line ([]) 0 ([]) ∷ line ([]) 823 ([]) ∷ [])
-    ∷ (line ([]) 0 ([]) ∷ line ([]) 723 ([]) ∷ [])
-    ∷ (line ([]) 0 ([]) ∷ line ([]) 623 ([]) ∷ [])
-    ∷ (line ([]) 0 ([]) ∷ line ([]) 523 ([]) ∷ [])
-    ∷ (line ([]) 0 ([]) ∷ line ([]) 423 ([]) ∷ [])
-    ∷ (line ([]) 0 ([]) ∷ line ([]) 323 ([]) ∷ [])
-    ∷ (line ([]) 0 ([]) ∷ line ([]) 223 (frame 0 0 1538 ∷ []) ∷ [])
-    ∷ (line ([]) 0 ([]) ∷ line ([]) 123 (frame 1 18 101 ∷ []) ∷ [])
-    ∷ (line ([]) 0 ([]) ∷ line ([]) 23 (frame 0 0 84 ∷ []) ∷ [])
+    (line (frame 0 0 1542 ∷ frame 0 0 88 ∷ []) 1630 ([]) ∷ line ([]) 0 ([]) ∷ [])
+    ∷ (line ([]) 1530 ([]) ∷ line ([]) 0 ([]) ∷ [])
+    ∷ (line ([]) 1430 ([]) ∷ line ([]) 0 ([]) ∷ [])
+    ∷ (line ([]) 1330 ([]) ∷ line ([]) 0 ([]) ∷ [])
+    ∷ (line ([]) 1230 ([]) ∷ line ([]) 0 ([]) ∷ [])
+    ∷ (line ([]) 1130 ([]) ∷ line ([]) 0 ([]) ∷ [])
+    ∷ (line ([]) 1030 ([]) ∷ line ([]) 0 ([]) ∷ [])
+    ∷ (line ([]) 930 ([]) ∷ line ([]) 0 ([]) ∷ [])
+    ∷ (line ([]) 830 ([]) ∷ line ([]) 0 ([]) ∷ [])
+    ∷ (line ([]) 730 ([]) ∷ line ([]) 0 ([]) ∷ [])
+    ∷ (line ([]) 630 ([]) ∷ line ([]) 0 ([]) ∷ [])
+    ∷ (line ([]) 530 ([]) ∷ line ([]) 0 ([]) ∷ [])
+    ∷ (line ([]) 430 ([]) ∷ line ([]) 0 ([]) ∷ [])
+    ∷ (line ([]) 330 ([]) ∷ line ([]) 0 ([]) ∷ [])
+    ∷ (line ([]) 230 ([]) ∷ line ([]) 0 ([]) ∷ [])
+    ∷ (line ([]) 130 (frame 0 0 1542 ∷ []) ∷ line ([]) 0 ([]) ∷ [])
+    ∷ (line ([]) 30 (frame 0 0 88 ∷ []) ∷ line ([]) 0 ([]) ∷ [])
+    ∷ (line ([]) 0 ([]) ∷ line (frame 0 0 1542 ∷ []) 1542 ([]) ∷ [])
+    ∷ (line ([]) 0 ([]) ∷ line (frame 1 18 105 ∷ frame 0 0 88 ∷ []) 1635 ([]) ∷ [])
+    ∷ (line ([]) 0 ([]) ∷ line ([]) 1535 ([]) ∷ [])
+    ∷ (line ([]) 0 ([]) ∷ line ([]) 1435 ([]) ∷ [])
+    ∷ (line ([]) 0 ([]) ∷ line ([]) 1335 ([]) ∷ [])
+    ∷ (line ([]) 0 ([]) ∷ line ([]) 1235 ([]) ∷ [])
+    ∷ (line ([]) 0 ([]) ∷ line ([]) 1135 ([]) ∷ [])
+    ∷ (line ([]) 0 ([]) ∷ line ([]) 1035 ([]) ∷ [])
+    ∷ (line ([]) 0 ([]) ∷ line ([]) 935 ([]) ∷ [])
+    ∷ (line ([]) 0 ([]) ∷ line ([]) 835 ([]) ∷ [])
+    ∷ (line ([]) 0 ([]) ∷ line ([]) 735 ([]) ∷ [])
+    ∷ (line ([]) 0 ([]) ∷ line ([]) 635 ([]) ∷ [])
+    ∷ (line ([]) 0 ([]) ∷ line ([]) 535 ([]) ∷ [])
+    ∷ (line ([]) 0 ([]) ∷ line ([]) 435 ([]) ∷ [])
+    ∷ (line ([]) 0 ([]) ∷ line ([]) 335 ([]) ∷ [])
+    ∷ (line ([]) 0 ([]) ∷ line ([]) 235 (frame 0 0 1542 ∷ []) ∷ [])
+    ∷ (line ([]) 0 ([]) ∷ line ([]) 135 (frame 1 18 105 ∷ []) ∷ [])
+    ∷ (line ([]) 0 ([]) ∷ line ([]) 35 (frame 0 0 88 ∷ []) ∷ [])
     ∷ []
 
 replay1 : replay (viewOf table1) (releasedBy releases1) lines1 ≡ lines1
@@ -124,20 +124,20 @@ replay1 = refl
 
 -- Several frames ending in one slot at rate 100.
 table2 : List ℕ
-table2 = 0x00 ∷ 0x00 ∷ 0x0a ∷ 0x04 ∷ 0x07 ∷ 0x00 ∷ 0x00 ∷ 0x00 ∷ 0x23 ∷ 0x90 ∷ 0x00 ∷ 0x00 ∷ 0x02 ∷ 0xca ∷ 0x00 ∷ 0x46 ∷ 0x00 ∷ 0x00 ∷ 0x0a ∷ 0x00 ∷ 0x00 ∷ 0x07 ∷ 0x20 ∷ 0x01 ∷ 0x00 ∷ 0x00 ∷ 0x80 ∷ 0x00 ∷ 0x02 ∷ 0x80 ∷ 0x00 ∷ 0x03 ∷ 0x90 ∷ 0x00 ∷ 0x80 ∷ 0x00 ∷ 0x40 ∷ 0x00 ∷ 0x02 ∷ 0x80 ∷ 0x00 ∷ 0x01 ∷ 0xc8 ∷ 0x00 ∷ 0x40 ∷ []
+table2 = 0x00 ∷ 0x00 ∷ 0x0a ∷ 0x04 ∷ 0x07 ∷ 0x00 ∷ 0x00 ∷ 0x00 ∷ 0x25 ∷ 0x10 ∷ 0x00 ∷ 0x00 ∷ 0x02 ∷ 0xe8 ∷ 0x00 ∷ 0x46 ∷ 0x00 ∷ 0x00 ∷ 0x0a ∷ 0x00 ∷ 0x00 ∷ 0x07 ∷ 0x20 ∷ 0x01 ∷ 0x00 ∷ 0x00 ∷ 0x80 ∷ 0x00 ∷ 0x02 ∷ 0x80 ∷ 0x00 ∷ 0x03 ∷ 0x90 ∷ 0x00 ∷ 0x80 ∷ 0x00 ∷ 0x40 ∷ 0x00 ∷ 0x02 ∷ 0x80 ∷ 0x00 ∷ 0x01 ∷ 0xc8 ∷ 0x00 ∷ 0x40 ∷ []
 
 releases2 : List Release
 releases2 = release 0 0 70 ∷ release 0 1 1 ∷ release 0 2 1 ∷ release 5 1 1 ∷ []
 
 lines2 : List (List Line)
 lines2 =
-    (line (frame 0 0 116 ∷ frame 1 0 84 ∷ frame 2 0 84 ∷ []) 284 ([]) ∷ line ([]) 0 ([]) ∷ [])
-    ∷ (line ([]) 184 (frame 0 0 116 ∷ frame 1 0 84 ∷ []) ∷ line ([]) 0 ([]) ∷ [])
-    ∷ (line ([]) 84 (frame 2 0 84 ∷ []) ∷ line (frame 0 0 116 ∷ frame 1 0 84 ∷ []) 200 ([]) ∷ [])
-    ∷ (line ([]) 0 ([]) ∷ line (frame 2 0 84 ∷ []) 184 (frame 0 0 116 ∷ frame 1 0 84 ∷ []) ∷ [])
-    ∷ (line ([]) 0 ([]) ∷ line ([]) 84 (frame 2 0 84 ∷ []) ∷ [])
-    ∷ (line (frame 1 5 84 ∷ []) 84 (frame 1 5 84 ∷ []) ∷ line ([]) 0 ([]) ∷ [])
-    ∷ (line ([]) 0 ([]) ∷ line (frame 1 5 84 ∷ []) 84 (frame 1 5 84 ∷ []) ∷ [])
+    (line (frame 0 0 120 ∷ frame 1 0 88 ∷ frame 2 0 88 ∷ []) 296 ([]) ∷ line ([]) 0 ([]) ∷ [])
+    ∷ (line ([]) 196 (frame 0 0 120 ∷ []) ∷ line ([]) 0 ([]) ∷ [])
+    ∷ (line ([]) 96 (frame 1 0 88 ∷ frame 2 0 88 ∷ []) ∷ line (frame 0 0 120 ∷ []) 120 ([]) ∷ [])
+    ∷ (line ([]) 0 ([]) ∷ line (frame 1 0 88 ∷ frame 2 0 88 ∷ []) 196 (frame 0 0 120 ∷ []) ∷ [])
+    ∷ (line ([]) 0 ([]) ∷ line ([]) 96 (frame 1 0 88 ∷ frame 2 0 88 ∷ []) ∷ [])
+    ∷ (line (frame 1 5 88 ∷ []) 88 (frame 1 5 88 ∷ []) ∷ line ([]) 0 ([]) ∷ [])
+    ∷ (line ([]) 0 ([]) ∷ line (frame 1 5 88 ∷ []) 88 (frame 1 5 88 ∷ []) ∷ [])
     ∷ []
 
 replay2 : replay (viewOf table2) (releasedBy releases2) lines2 ≡ lines2
@@ -146,19 +146,19 @@ replay2 = refl
 
 -- A shuffled slot: releases in slot 0, frames due and a release in slot 2.
 table3 : List ℕ
-table3 = 0x00 ∷ 0x00 ∷ 0x0c ∷ 0x04 ∷ 0x0b ∷ 0x00 ∷ 0x00 ∷ 0x00 ∷ 0x32 ∷ 0x30 ∷ 0x00 ∷ 0x00 ∷ 0x03 ∷ 0xd8 ∷ 0x00 ∷ 0x01 ∷ 0x00 ∷ 0x00 ∷ 0x06 ∷ 0x00 ∷ 0x00 ∷ 0x0a ∷ 0x20 ∷ 0x01 ∷ 0x00 ∷ 0x13 ∷ 0x80 ∷ 0x00 ∷ 0x06 ∷ 0x00 ∷ 0x00 ∷ 0x05 ∷ 0x10 ∷ 0x00 ∷ 0x80 ∷ 0x11 ∷ 0x80 ∷ 0x00 ∷ 0x03 ∷ 0x00 ∷ 0x00 ∷ 0x01 ∷ 0x44 ∷ 0x00 ∷ 0x02 ∷ 0x30 ∷ 0x00 ∷ 0x00 ∷ 0x60 ∷ 0x00 ∷ 0x00 ∷ 0x51 ∷ 0x00 ∷ 0x08 ∷ 0x00 ∷ 0x04 ∷ 0x00 ∷ 0x00 ∷ 0x10 ∷ 0x00 ∷ 0x00 ∷ 0x14 ∷ 0x41 ∷ []
+table3 = 0x00 ∷ 0x00 ∷ 0x0c ∷ 0x04 ∷ 0x0b ∷ 0x00 ∷ 0x00 ∷ 0x00 ∷ 0x32 ∷ 0x30 ∷ 0x00 ∷ 0x00 ∷ 0x03 ∷ 0xec ∷ 0x00 ∷ 0x01 ∷ 0x00 ∷ 0x00 ∷ 0x06 ∷ 0x00 ∷ 0x00 ∷ 0x0b ∷ 0x20 ∷ 0x01 ∷ 0x00 ∷ 0x13 ∷ 0x80 ∷ 0x00 ∷ 0x06 ∷ 0x00 ∷ 0x00 ∷ 0x05 ∷ 0x90 ∷ 0x00 ∷ 0x80 ∷ 0x0f ∷ 0x80 ∷ 0x00 ∷ 0x03 ∷ 0x00 ∷ 0x00 ∷ 0x01 ∷ 0x44 ∷ 0x00 ∷ 0x01 ∷ 0xf0 ∷ 0x00 ∷ 0x00 ∷ 0x60 ∷ 0x00 ∷ 0x00 ∷ 0x59 ∷ 0x00 ∷ 0x08 ∷ 0x00 ∷ 0x04 ∷ 0x00 ∷ 0x00 ∷ 0x10 ∷ 0x00 ∷ 0x00 ∷ 0x18 ∷ 0x41 ∷ []
 
 releases3 : List Release
-releases3 = release 0 3 70 ∷ release 0 0 1 ∷ release 0 2 70 ∷ release 0 1 39 ∷ release 2 4 1 ∷ []
+releases3 = release 0 3 62 ∷ release 0 0 1 ∷ release 0 2 62 ∷ release 0 1 39 ∷ release 2 4 1 ∷ []
 
 lines3 : List (List Line)
 lines3 =
-    (line (frame 3 0 116 ∷ frame 0 0 84 ∷ frame 2 0 116 ∷ frame 1 0 85 ∷ []) 401 ([]) ∷ line ([]) 0 ([]) ∷ [])
-    ∷ (line ([]) 301 (frame 3 0 116 ∷ frame 0 0 84 ∷ []) ∷ line ([]) 0 ([]) ∷ [])
-    ∷ (line ([]) 201 ([]) ∷ line (frame 4 2 84 ∷ frame 0 0 84 ∷ frame 3 0 116 ∷ []) 284 (frame 4 2 84 ∷ []) ∷ [])
-    ∷ (line ([]) 101 (frame 2 0 116 ∷ []) ∷ line ([]) 184 (frame 0 0 84 ∷ []) ∷ [])
-    ∷ (line ([]) 1 (frame 1 0 85 ∷ []) ∷ line ([]) 84 (frame 3 0 116 ∷ []) ∷ [])
-    ∷ (line ([]) 0 ([]) ∷ line (frame 1 0 85 ∷ []) 85 (frame 1 0 85 ∷ []) ∷ [])
+    (line (frame 3 0 112 ∷ frame 0 0 88 ∷ frame 2 0 112 ∷ frame 1 0 89 ∷ []) 401 ([]) ∷ line ([]) 0 ([]) ∷ [])
+    ∷ (line ([]) 301 (frame 3 0 112 ∷ frame 0 0 88 ∷ []) ∷ line ([]) 0 ([]) ∷ [])
+    ∷ (line ([]) 201 ([]) ∷ line (frame 4 2 88 ∷ frame 0 0 88 ∷ frame 3 0 112 ∷ []) 288 (frame 4 2 88 ∷ []) ∷ [])
+    ∷ (line ([]) 101 (frame 2 0 112 ∷ []) ∷ line ([]) 188 (frame 0 0 88 ∷ []) ∷ [])
+    ∷ (line ([]) 1 (frame 1 0 89 ∷ []) ∷ line ([]) 88 (frame 3 0 112 ∷ []) ∷ [])
+    ∷ (line ([]) 0 ([]) ∷ line (frame 1 0 89 ∷ []) 89 (frame 1 0 89 ∷ []) ∷ [])
     ∷ []
 
 replay3 : replay (viewOf table3) (releasedBy releases3) lines3 ≡ lines3
@@ -167,18 +167,18 @@ replay3 = refl
 
 -- Figures reached exactly on a later wire.
 table4 : List ℕ
-table4 = 0x00 ∷ 0x00 ∷ 0x04 ∷ 0x04 ∷ 0x05 ∷ 0x00 ∷ 0x00 ∷ 0x00 ∷ 0x19 ∷ 0x30 ∷ 0x00 ∷ 0x00 ∷ 0x01 ∷ 0x50 ∷ 0x00 ∷ 0x01 ∷ 0x00 ∷ 0x00 ∷ 0x02 ∷ 0x00 ∷ 0x00 ∷ 0x05 ∷ 0x20 ∷ 0x01 ∷ 0x00 ∷ 0x23 ∷ 0x80 ∷ 0x00 ∷ 0x02 ∷ 0x00 ∷ 0x00 ∷ 0x01 ∷ 0x88 ∷ 0x00 ∷ []
+table4 = 0x00 ∷ 0x00 ∷ 0x04 ∷ 0x04 ∷ 0x05 ∷ 0x00 ∷ 0x00 ∷ 0x00 ∷ 0x1a ∷ 0x30 ∷ 0x00 ∷ 0x00 ∷ 0x01 ∷ 0x60 ∷ 0x00 ∷ 0x01 ∷ 0x00 ∷ 0x00 ∷ 0x02 ∷ 0x00 ∷ 0x00 ∷ 0x05 ∷ 0x20 ∷ 0x01 ∷ 0x00 ∷ 0x23 ∷ 0x80 ∷ 0x00 ∷ 0x02 ∷ 0x00 ∷ 0x00 ∷ 0x01 ∷ 0x88 ∷ 0x00 ∷ []
 
 releases4 : List Release
 releases4 = release 0 1 71 ∷ release 0 0 1 ∷ release 2 0 1 ∷ []
 
 lines4 : List (List Line)
 lines4 =
-    (line (frame 1 0 117 ∷ frame 0 0 84 ∷ []) 201 ([]) ∷ line ([]) 0 ([]) ∷ [])
-    ∷ (line ([]) 101 (frame 1 0 117 ∷ []) ∷ line ([]) 0 ([]) ∷ [])
-    ∷ (line (frame 0 2 84 ∷ []) 85 (frame 0 0 84 ∷ frame 0 2 84 ∷ []) ∷ line ([]) 0 ([]) ∷ [])
-    ∷ (line ([]) 0 ([]) ∷ line (frame 0 2 84 ∷ frame 0 0 84 ∷ []) 168 (frame 0 2 84 ∷ []) ∷ [])
-    ∷ (line ([]) 0 ([]) ∷ line ([]) 68 (frame 0 0 84 ∷ []) ∷ [])
+    (line (frame 1 0 121 ∷ frame 0 0 88 ∷ []) 209 ([]) ∷ line ([]) 0 ([]) ∷ [])
+    ∷ (line ([]) 109 (frame 1 0 121 ∷ []) ∷ line ([]) 0 ([]) ∷ [])
+    ∷ (line (frame 0 2 88 ∷ []) 97 (frame 0 0 88 ∷ frame 0 2 88 ∷ []) ∷ line ([]) 0 ([]) ∷ [])
+    ∷ (line ([]) 0 ([]) ∷ line (frame 0 2 88 ∷ frame 0 0 88 ∷ []) 176 (frame 0 2 88 ∷ []) ∷ [])
+    ∷ (line ([]) 0 ([]) ∷ line ([]) 76 (frame 0 0 88 ∷ []) ∷ [])
     ∷ []
 
 replay4 : replay (viewOf table4) (releasedBy releases4) lines4 ≡ lines4

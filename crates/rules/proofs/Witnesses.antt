@@ -2,7 +2,7 @@
 use mathlib.Core.Path.{_≡_, refl}
 use mathlib.Core.Bool.{Bool, true, false}
 use mathlib.Core.List.{List, [], _∷_, _++_}
-use Prim.Native.Nat.{ℕ, suc, _*_, _/_, _%_, _≤_, _<_}
+use Prim.Native.Nat.{ℕ, suc, _-_, _*_, _/_, _%_, _≤_, _<_}
 use native.Mathlib.Nat.{div-add-mod', mul-le-mul-right, mul-mod-left, suc-mul}
 use native.Mathlib.Decide.{decLe, ℕ-discrete}
 use native.Mathlib.Omega.{arith}
@@ -11,7 +11,7 @@ use borrow.Author.Tests.{eq-eqb, ne-eqb}
 use Rattle.bits.specs.Field.{bit, field}
 use Rattle.rules.specs.Words.{sum, total, listed, gathered, only, has}
 use Rattle.rules.specs.Replies.{granted, refused, test, each}
-use Rattle.rules.specs.Price.{lastBytes, price, lastFrame, frames}
+use Rattle.rules.specs.Price.{fullFrame, smallFrame, lastBytes, price, lastFrame, frames}
 use Rattle.rules.specs.Table.{View, viewOf, hyperOf, wiresOf, channelsOf, wireAt, codeOf, rateOf, propOf, roomOf, framingAt, payloadAt, periodAt, deadlineAt, hopsAt, routeAt, channelAt, endOf, fillingOf, after, source, lastWire}
 use Rattle.rules.specs.Reading.{headTests, wireTests, hopTests, recordTests, channelTests, fillingTests, readingTests}
 use Rattle.rules.specs.Bounds.{loadOf, load, along, jitter, shareOf, backlogAfter, delayAfter, delaysBelow, backlog, delay, endToEnd}
@@ -95,19 +95,22 @@ pub a-accepted : judge caseA 12 ≡ granted (12 ∷ [])
 unfolding definitions
 a-accepted = refl
 
-pub a-unsent : unsent runA 0 0 ≡ 84
+pub a-unsent : unsent runA 0 0 ≡ backlog (viewOf caseA) 0
 unfolding definitions
 a-unsent = refl
 
-pub a-message : message (viewOf caseA) (periodic (viewOf caseA)) 0 0 ≡ record { channel = 0; born = 0; size = 84 } ∷ []
+pub a-message :
+    message (viewOf caseA) (periodic (viewOf caseA)) 0 0 ≡ record { channel = 0; born = 0; size = smallFrame } ∷ []
 unfolding definitions
 a-message = refl
 
-pub a-early : delivered (viewOf caseA) (runA .gone) 0 0 90 ≡ []
+pub a-early : delivered (viewOf caseA) (runA .gone) 0 0 (endToEnd (viewOf caseA) 0 - 1) ≡ []
 unfolding definitions
 a-early = refl
 
-pub a-there : delivered (viewOf caseA) (runA .gone) 0 0 91 ≡ message (viewOf caseA) (periodic (viewOf caseA)) 0 0
+pub a-there :
+    delivered (viewOf caseA) (runA .gone) 0 0 (endToEnd (viewOf caseA) 0)
+    ≡ message (viewOf caseA) (periodic (viewOf caseA)) 0 0
 unfolding definitions
 a-there = refl
 
@@ -116,7 +119,7 @@ a-there = refl
 -- behind; at wire 1 the second goes first. Wire 1 holds exactly its backlog, and the first message takes exactly its
 -- end-to-end delay.
 abbrev pub later : List ℕ
-later = 0x00 ∷ 0x00 ∷ 0x04 ∷ 0x04 ∷ 0x05 ∷ 0x00 ∷ 0x00 ∷ 0x00 ∷ 0x19 ∷ 0x30 ∷ 0x00 ∷ 0x00 ∷ 0x01 ∷ 0x50 ∷ 0x00 ∷ 0x01 ∷ 0x00 ∷ 0x00 ∷ 0x02 ∷ 0x00 ∷ 0x00 ∷ 0x05 ∷ 0x20 ∷ 0x01 ∷ 0x00 ∷ 0x23 ∷ 0x80 ∷ 0x00 ∷ 0x02 ∷ 0x00 ∷ 0x00 ∷ 0x01 ∷ 0x88 ∷ 0x00 ∷ []
+later = 0x00 ∷ 0x00 ∷ 0x04 ∷ 0x04 ∷ 0x05 ∷ 0x00 ∷ 0x00 ∷ 0x00 ∷ 0x1a ∷ 0x30 ∷ 0x00 ∷ 0x00 ∷ 0x01 ∷ 0x60 ∷ 0x00 ∷ 0x01 ∷ 0x00 ∷ 0x00 ∷ 0x02 ∷ 0x00 ∷ 0x00 ∷ 0x05 ∷ 0x20 ∷ 0x01 ∷ 0x00 ∷ 0x23 ∷ 0x80 ∷ 0x00 ∷ 0x02 ∷ 0x00 ∷ 0x00 ∷ 0x01 ∷ 0x88 ∷ 0x00 ∷ []
 
 abbrev pub runLater : Run (viewOf later) (periodic (viewOf later))
 runLater = played-run (viewOf later) (periodic (viewOf later)) last-first last-first-any
@@ -125,30 +128,33 @@ pub later-accepted : judge later 21 ≡ granted (21 ∷ [])
 unfolding definitions
 later-accepted = refl
 
-pub later-figures : (backlog (viewOf later) 1 ≡ 168) × (endToEnd (viewOf later) 0 ≡ 5)
+pub later-figures : (backlog (viewOf later) 1 ≡ 176) × (endToEnd (viewOf later) 0 ≡ 5)
 unfolding definitions
 later-figures = (refl, refl)
 
-pub later-unsent : unsent runLater 1 3 ≡ 168
+pub later-unsent : unsent runLater 1 3 ≡ backlog (viewOf later) 1
 unfolding definitions
 later-unsent = refl
 
-pub later-message : message (viewOf later) (periodic (viewOf later)) 0 0 ≡ record { channel = 0; born = 0; size = 84 } ∷ []
+pub later-message :
+    message (viewOf later) (periodic (viewOf later)) 0 0 ≡ record { channel = 0; born = 0; size = smallFrame } ∷ []
 unfolding definitions
 later-message = refl
 
-pub later-early : delivered (viewOf later) (runLater .gone) 0 0 4 ≡ []
+pub later-early : delivered (viewOf later) (runLater .gone) 0 0 (endToEnd (viewOf later) 0 - 1) ≡ []
 unfolding definitions
 later-early = refl
 
-pub later-there : delivered (viewOf later) (runLater .gone) 0 0 5 ≡ message (viewOf later) (periodic (viewOf later)) 0 0
+pub later-there :
+    delivered (viewOf later) (runLater .gone) 0 0 (endToEnd (viewOf later) 0)
+    ≡ message (viewOf later) (periodic (viewOf later)) 0 0
 unfolding definitions
 later-there = refl
 
 -- Two frames: H 100; two wires of rate 100, propagation 3 and 5; a channel of payload 1,493, period 100, route 0, 1. The
 -- message is there with its second frame, not with its first.
 abbrev pub twoFrames : List ℕ
-twoFrames = 0x00 ∷ 0x00 ∷ 0x64 ∷ 0x04 ∷ 0x03 ∷ 0x00 ∷ 0x60 ∷ 0x00 ∷ 0xca ∷ 0xd0 ∷ 0x0a ∷ 0x00 ∷ 0x0e ∷ 0xb2 ∷ 0x05 ∷ 0xd5 ∷ 0x00 ∷ 0x00 ∷ 0x64 ∷ 0x00 ∷ 0x00 ∷ 0x2c ∷ 0x20 ∷ 0x01 ∷ []
+twoFrames = 0x00 ∷ 0x00 ∷ 0x64 ∷ 0x04 ∷ 0x03 ∷ 0x00 ∷ 0x60 ∷ 0x00 ∷ 0xcb ∷ 0xd0 ∷ 0x0a ∷ 0x00 ∷ 0x0e ∷ 0xc4 ∷ 0x05 ∷ 0xd5 ∷ 0x00 ∷ 0x00 ∷ 0x64 ∷ 0x00 ∷ 0x00 ∷ 0x2c ∷ 0x20 ∷ 0x01 ∷ []
 
 abbrev pub runTwo : Run (viewOf twoFrames) (periodic (viewOf twoFrames))
 runTwo = played-run (viewOf twoFrames) (periodic (viewOf twoFrames)) in-turn in-turn-any
@@ -159,11 +165,12 @@ two-accepted = refl
 
 pub two-message :
     message (viewOf twoFrames) (periodic (viewOf twoFrames)) 0 0
-    ≡ record { channel = 0; born = 0; size = 1538 } ∷ record { channel = 0; born = 0; size = 84 } ∷ []
+    ≡ record { channel = 0; born = 0; size = fullFrame } ∷ record { channel = 0; born = 0; size = smallFrame } ∷ []
 unfolding definitions
 two-message = refl
 
-pub two-part : delivered (viewOf twoFrames) (runTwo .gone) 0 0 40 ≡ record { channel = 0; born = 0; size = 1538 } ∷ []
+pub two-part :
+    delivered (viewOf twoFrames) (runTwo .gone) 0 0 40 ≡ record { channel = 0; born = 0; size = fullFrame } ∷ []
 unfolding definitions
 two-part = refl
 
@@ -172,14 +179,14 @@ unfolding definitions
 two-whole = refl
 
 -- Three thirds of a wire are its whole load: case B.
-pub b-load : load (viewOf caseB) 0 ≡ 252
+pub b-load : load (viewOf caseB) 0 ≡ 264
 unfolding definitions
 b-load = refl
 
--- A load one over: H 85, rate 1, one message of 86 bytes in 85 slots.
+-- A load one over: H 89, rate 1, one message of 90 bytes in 89 slots.
 pub over : List ℕ
 over =
-    0x00 ∷ 0x00 ∷ 0x55 ∷ 0x02 ∷ 0x02 ∷ 0x00 ∷ 0x00 ∷ 0x00 ∷ 0x7d ∷ 0x00 ∷ 0x02 ∷ 0x80 ∷ 0x00 ∷ 0x05 ∷ 0x50 ∷ 0x00 ∷ 0x3e ∷ 0x81 ∷ 0x00 ∷ []
+    0x00 ∷ 0x00 ∷ 0x59 ∷ 0x02 ∷ 0x02 ∷ 0x00 ∷ 0x00 ∷ 0x00 ∷ 0x7d ∷ 0x00 ∷ 0x02 ∷ 0x80 ∷ 0x00 ∷ 0x05 ∷ 0x90 ∷ 0x00 ∷ 0x3e ∷ 0x81 ∷ 0x00 ∷ []
 
 pub one-over : judge over 12 ≡ refused 12 0
 unfolding over definitions

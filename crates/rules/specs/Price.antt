@@ -9,11 +9,12 @@ use Rattle.rules.specs.Words.{between}
 use Rattle.rules.specs.Numbers.{payloadMost}
 use Rattle.rules.specs.Replies.{Reply, granted, refused, test}
 
--- The table of framings has one row each: plain 1,492 data, 46 overhead, 38 least data; with IP and UDP 1,464, 74, 10.
+-- The table of framings has one row each: plain 1,492 data, 50 overhead, 38 least data; with IP and UDP 1,464, 78, 10. The
+-- overhead holds the 4 bytes of the priority tag; makers pad before it is put in, so the least data does not count it.
 abbrev pub rows : List Row
 rows =
-    record { most = 1492; overhead = 46; least = 38 }
-    ∷ record { most = 1464; overhead = 74; least = 10 }
+    record { most = 1492; overhead = 50; least = 38 }
+    ∷ record { most = 1464; overhead = 78; least = 10 }
     ∷ []
 
 abbrev pub noRow : Row
@@ -24,10 +25,10 @@ rowOf framing = getD rows framing noRow
 
 -- Bytes on the wire of a full frame, and of the smallest.
 abbrev pub fullFrame : ℕ
-fullFrame = 1538
+fullFrame = 1542
 
 abbrev pub smallFrame : ℕ
-smallFrame = 84
+smallFrame = 88
 
 -- A remainder of at least the least data adds one frame of remainder + overhead; a smaller nonzero remainder adds the
 -- smallest; a zero remainder adds nothing.
