@@ -26,7 +26,8 @@ uint64_t magsurinda_ask_wire(const uint8_t *sheet, size_t sheet_len, uint64_t wi
 /* Asks a sheet for a channel. Granted: its end-to-end delay in slots. Refused: 16 to 19. */
 uint64_t magsurinda_ask_channel(const uint8_t *sheet, size_t sheet_len, uint64_t channel);
 
-/* The price in bytes on the wire of a payload, framing 0 plain, 1 with IP and UDP. Refused: 20, then 6. */
+/* The price in bytes on the wire, the priority tag counted, of a payload: framing 0 plain, 1 with IP and UDP. Refused: 20,
+   then 6. */
 uint64_t magsurinda_price(uint64_t framing, uint64_t payload);
 
 static inline unsigned magsurinda_number(uint64_t reply) { return (unsigned)(reply >> 56); }

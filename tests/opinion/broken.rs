@@ -21,7 +21,7 @@ pub const FAULTS: [&str; 22] = [
     "a wire's delay is one more from wire 5 on",
     "channels are numbered modulo 2^32",
     "the filling bits of a sheet are not looked at",
-    "plain payload 1,530 costs 1,623",
+    "plain payload 1,530 costs one byte more",
     "payload 65,536 is taken for 0 and then for 1",
     "jitter grows by the delay minus 2",
     "load is a sum of hundredths, each rounded up",
@@ -167,7 +167,7 @@ impl Face for Broken {
 
     fn price(&self, framing: u64, payload: u64) -> u64 {
         match (self.fault, framing, payload) {
-            (18, 0, 1_530) => 1_623,
+            (18, 0, 1_530) => self.inner.price(framing, payload) + 1,
             (19, _, 65_536) => self.inner.price(framing, 1),
             _ => self.inner.price(framing, payload),
         }

@@ -355,7 +355,7 @@ pub const FOR_MACHINE: Shape = Shape {
 pub const EIGHT_HOPS: Shape = Shape { wires: (8, 10), channels: (2, 6), hops: (8, 8), ..FOR_MACHINE };
 
 /// Tables in which a figure with jitter can be reached exactly. Each of the first wires, of rate
-/// 100, holds a smallest frame back for exactly one period, 1 to 12 bytes of it going in the slot in
+/// 100, holds a smallest frame back for exactly one period, a few bytes of it going in the slot in
 /// which the next one comes and goes whole; all of them then meet on one later wire.
 pub fn meeting(rng: &mut Rng) -> Draft {
     let hyperperiod = Hyperperiod::of(rng.pick(&[120, 240, 360, 840, 2_520]));

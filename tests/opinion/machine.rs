@@ -1,4 +1,4 @@
-//! The slot machine, frame by frame as document 01 says it.
+//! The slot machine, frame by frame as document 01 says it, with request Q-2's frames.
 //!
 //! In each slot, first the arrivals: messages released now enter their first wire as whole frames,
 //! and frames due now enter theirs, behind all earlier frames and among themselves in an order that

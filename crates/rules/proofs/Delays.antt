@@ -1,9 +1,9 @@
 -- Laws of the figures: the delays that a wire's figures go by, and what a delay is enough for.
 use mathlib.Core.Path.{_≡_, refl, ap, sym, _∙_}
-use mathlib.Core.Bool.{true}
+use mathlib.Core.Bool.{true, false}
 use mathlib.Core.List.{[], _∷_, _++_}
 use Prim.Native.Nat.{ℕ, zero, suc, _+_, _-_, _*_, _/_, _≤_, _<_}
-use native.Mathlib.Nat.{mul-le-mul-right, le-div-iff-mul-le, lt-div-mul-add}
+use native.Mathlib.Nat.{div-eq-of-lt, mul-le-mul-right, le-div-iff-mul-le, lt-div-mul-add}
 use native.Mathlib.Decide.{ℕ-discrete}
 use native.Mathlib.Omega.{arith}
 use lib.ListN.{length, length-append, List·getD-append}
@@ -13,7 +13,7 @@ use Rattle.rules.specs.Price.{smallFrame}
 use Rattle.rules.specs.Table.{View}
 use Rattle.rules.specs.Bounds.{cost, on, along, jitter, shareOf, backlogAfter, delayAfter, delaysBelow, known, backlog, delay}
 use Rattle.rules.proofs.Sound.{Sound, Climbs}
-use Rattle.rules.proofs.Sums.{sum-has}
+use Rattle.rules.proofs.Sums.{sum-has, sum-none, sum-same}
 use Rattle.rules.proofs.Prices.{price-least}
 use Rattle.rules.proofs.Routes.{along-same}
 
@@ -65,3 +65,14 @@ delay-least t sound w k lw lk there =
     let dear : smallFrame * t .hyper ≤ cost t k * t .hyper = mul-le-mul-right (t .hyper) (prices-least t sound k lk) in
     let some : 1 ≤ shares / t .hyper = le-div-iff-mul-le (sound .hyper-least) .1 (omega (arith, sum-has (shareOf t (known t w) w) (t .channels) k lk)) in
     le-div-iff-mul-le (sound .rate-least w lw) .1 (omega (arith, sound .rate-least w lw))
+
+-- A wire that no route uses has backlog 0 and delay 0.
+pub unused :
+    (t : View) (w : ℕ) → 1 ≤ t .hyper → 1 ≤ t .rate w → ((k : ℕ) → k < t .channels → on t w k ≡ false) →
+    (backlog t w ≡ 0) × (delay t w ≡ 0)
+unfolding backlog delay delayAfter backlogAfter shareOf
+unused t w h l off =
+    let none : sum (shareOf t (known t w) w) (t .channels) ≡ 0 =
+    sum-same (shareOf t (known t w) w) (λ k. 0) (t .channels) (λ k lk. rw (off k lk) refl) ∙ sum-none (t .channels) in
+    let no-backlog : sum (shareOf t (known t w) w) (t .channels) / t .hyper ≡ 0 = rw none (div-eq-of-lt h) in
+    (no-backlog, rw no-backlog (div-eq-of-lt (omega arith)))

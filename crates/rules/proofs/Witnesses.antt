@@ -179,7 +179,7 @@ unfolding definitions
 two-whole = refl
 
 -- Three thirds of a wire are its whole load: case B.
-pub b-load : load (viewOf caseB) 0 ≡ 264
+pub b-load : load (viewOf caseB) 0 ≡ viewOf caseB .rate 0 * viewOf caseB .hyper
 unfolding definitions
 b-load = refl
 
@@ -194,7 +194,7 @@ one-over = refl
 
 -- Zero channels: H 1, one wire.
 pub none-listed : List ℕ
-none-listed = 0x00 ∷ 0x00 ∷ 0x01 ∷ 0x02 ∷ 0x00 ∷ 0x00 ∷ 0x00 ∷ 0x00 ∷ 0x0a ∷ 0x80 ∷ []
+none-listed = 0x00 ∷ 0x00 ∷ 0x01 ∷ 0x02 ∷ 0x00 ∷ 0x00 ∷ 0x00 ∷ 0x00 ∷ 0x0b ∷ 0x00 ∷ []
 
 pub zero-channels : judge none-listed 12 ≡ refused 4 0
 unfolding none-listed definitions

@@ -1,5 +1,5 @@
--- Document 01 as definitions, a file for each of its sections. What stands here is what a reader must believe. Decoded is no
--- section of it: it is the code's arrays over those definitions.
+-- Document 01, with request Q-2's prices, as definitions, a file for each of its sections. What stands here is what a reader
+-- must believe. Decoded is no section of it: it is the code's arrays over those definitions.
 pub mod Words
 pub mod Numbers
 pub mod Replies

@@ -9,8 +9,9 @@ use Rattle.rules.specs.Words.{between}
 use Rattle.rules.specs.Numbers.{payloadMost}
 use Rattle.rules.specs.Replies.{Reply, granted, refused, test}
 
--- The table of framings has one row each: plain 1,492 data, 50 overhead, 38 least data; with IP and UDP 1,464, 78, 10. The
--- overhead holds the 4 bytes of the priority tag; makers pad before it is put in, so the least data does not count it.
+-- The table of framings has one row each: plain 1,492 data, 50 overhead, 38 least data; with IP and UDP 1,464, 78, 10. These are
+-- request Q-2's: document 01's 46 and 74, and the 4 bytes of the priority tag; makers pad before it is put in, so the least
+-- data stays.
 abbrev pub rows : List Row
 rows =
     record { most = 1492; overhead = 50; least = 38 }

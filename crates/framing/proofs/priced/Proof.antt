@@ -12,36 +12,29 @@ use Rattle.framing.proofs.priced.Reads as reads
 use Rattle.framing.proofs.priced.Lts as lts
 use Rattle.framing.proofs.last_bytes.Reads as last-bytes-reads
 
--- src/lib.rt:62:15
 mul-row : tie.Need-mul-row
 mul-row c = search needs
 
--- src/lib.rt:62:15
 array-copy-out-row : tie.Need-array-copy-out-row
 array-copy-out-row c = search needs
 
--- src/lib.rt:63:5
 div-result : tie.Need-div-result
 div-result c = fair (c .before .before .args .framing) (omega arith) .some
 
--- src/lib.rt:63:5
 mul-result : tie.Need-mul-result
 mul-result c =
     let a = c .before .before .args in
     omega (arith, div-le-self (a .payload) (rowOf (a .framing) .most))
 
--- src/lib.rt:63:55
 rem-last-bytes : tie.Need-rem-last-bytes
 rem-last-bytes c = fair (c .before .before .before .args .framing) (omega arith) .some
 
--- src/lib.rt:63:39
 last-bytes-requires : tie.Need-last-bytes-requires
 last-bytes-requires c κs =
     let a = c .before .before .before .args in
     let f = fair (a .framing) (omega arith) in
     omega (arith, mod-lt (a .payload) (f .some), f .full)
 
--- src/lib.rt:63:5
 add-result : tie.Need-add-result
 add-result c =
     let a = c .before .before .before .before .args in
@@ -49,7 +42,6 @@ add-result c =
     let row = rowOf (a .framing) in
     omega (arith, c .last-bytes .ensures, div-le-self (a .payload) (row .most), last-most row f (a .payload % row .most) (mod-lt (a .payload) (f .some)))
 
--- src/lib.rt:58:1
 returns : tie.Need-returns
 unfolding price
 returns c = rw (c .last-bytes .ensures) refl

@@ -4,19 +4,15 @@ use Rattle.judge.proofs.Putting.{head-put}
 use Rattle.judge.proofs.writing.put_head.Statement.{statement}
 use Rattle.judge.proofs.writing.put_head.Tie as tie
 
--- src/writing.rt:52:5
 write-requires : tie.Need-write-requires
 write-requires c κs = search needs
 
--- src/writing.rt:53:5
 write-requires-2 : tie.Need-write-requires-2
 write-requires-2 c κs = search needs
 
--- src/writing.rt:48:1
 same-length : tie.Need-same-length
 same-length c = search needs
 
--- src/writing.rt:48:1
 returns : tie.Need-returns
 returns c =
     let second = c .before .before in
