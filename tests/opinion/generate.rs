@@ -200,10 +200,9 @@ pub const LONGEST: Shape = Shape {
     wires: (64, 64),
     channels: (128, 128),
     hops: (8, 8),
-    least_payload: 1,
     most_payload: 1_464,
     least_hyperperiod: 100_000,
-    most_hyperperiod: 12_500_000,
+    ..SMALL
 };
 
 /// Long messages over long routes in a long hyperperiod: the largest numerators, and jitters that
@@ -213,9 +212,8 @@ pub const TOWERING: Shape = Shape {
     channels: (4, 40),
     hops: (8, 8),
     least_payload: 50_000,
-    most_payload: 65_535,
     least_hyperperiod: 6_000_000,
-    most_hyperperiod: 12_500_000,
+    ..SMALL
 };
 
 const PAYLOADS: [u64; 19] =
@@ -344,11 +342,10 @@ pub fn full(rng: &mut Rng) -> Draft {
 pub const FOR_MACHINE: Shape = Shape {
     wires: (1, 10),
     channels: (1, 8),
-    hops: (1, 8),
-    least_payload: 1,
     most_payload: 6_000,
     least_hyperperiod: 4,
     most_hyperperiod: 30_000,
+    ..SMALL
 };
 
 /// Long routes: every channel passes eight wires.
