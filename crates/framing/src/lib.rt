@@ -23,10 +23,6 @@ const ROWS: [Row; 2] = [
     },
 ];
 
-const FULL_FRAME: u64 = 1542;
-
-const SMALL_FRAME: u64 = 88;
-
 // By rate code.
 const RATES: [u64; 3] = [1, 10, 100];
 
@@ -47,7 +43,7 @@ fn last_bytes(row: Row, rest: u64) -> u64
     } else if row.least <= rest {
         rest + row.overhead
     } else {
-        SMALL_FRAME
+        Row::SMALL_FRAME
     }
 }
 
@@ -57,7 +53,7 @@ fn priced(framing: usize, payload: u64) -> u64
     ensures { λ r. ⌜ r ≡ priceOf framing payload ⌝ }
 {
     let row = ROWS[framing];
-    payload / row.most * FULL_FRAME + last_bytes(row, payload % row.most)
+    payload / row.most * Row::FULL_FRAME + last_bytes(row, payload % row.most)
 }
 
 // Asking a price, of any two numbers: refusal 20, then 6.

@@ -1,4 +1,5 @@
 pub mod Filing
+pub mod Holding
 pub mod Walk
 pub mod Told
 pub mod Walking

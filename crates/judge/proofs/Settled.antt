@@ -15,7 +15,7 @@ use Rattle.rules.specs.Replies.{judgingReply}
 use Rattle.rules.specs.Table.{viewOf}
 use Rattle.rules.specs.Judgement.{judge as judged, buffer}
 use Rattle.rules.specs.Cases.{caseA, caseASheet, caseALate}
-use Rattle.rules.specs.Machine.{Releases, Keeps, Run}
+use Rattle.rules.specs.Machine.{Releases, Keeps, Holding, Run, Allowed}
 use Rattle.rules.specs.Promise.{Promised}
 use Rattle.rules.proofs.Replies.{judging-one}
 use Rattle.rules.proofs.Cases.{case-a, case-a-late}
@@ -33,9 +33,9 @@ module _ (κs : Lfts 2) (a : ArgsD judge.signature κs) (r : ResD judge.signatur
 
   pub promise-kept :
       (len : ℕ) → r ≡ judging.Accepted len → (released : Releases) → Keeps (viewOf table) released →
-      (run : Run (viewOf table) released) → Promised table (take len left) released run
-  promise-kept len is released keeps run =
-      rw (met .1) (promise table _ len (sym (met .0) ∙ ap judgingReply is) released keeps run)
+      (held : Holding) (run : Run (viewOf table) released held) → Allowed run → Promised table (take len left) released held run
+  promise-kept len is released keeps held run allowed =
+      rw (met .1) (promise table _ len (sym (met .0) ∙ ap judgingReply is) released keeps held run allowed)
 
   -- a table and a lent length for which the definitions give one reply and one buffer
   forced : (s : List ℕ) (lent : ℕ) (j : Judging) (bytes : List ℕ) → table ≡ s → length (now (a .1 .0)) ≡ lent

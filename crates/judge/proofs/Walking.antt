@@ -10,7 +10,7 @@ use Rattle.bits.proofs.Laws.{field-lt}
 use Rattle.rules.specs.Words.{sum, only}
 use Rattle.rules.specs.Numbers.{wiresMost, channelsMost, hopsMost, hyperMost}
 use Rattle.rules.specs.Table.{View, viewOf, roomOf, propOf}
-use Rattle.rules.specs.Bounds.{on, load, jitter, shareOf, backlogAfter, known, backlog, delay, endToEnd}
+use Rattle.rules.specs.Bounds.{on, carries, K, load, jitter, shareOf, backlogAfter, known, backlog, delay, endToEnd}
 use Rattle.rules.specs.Judgement.{roomTest}
 use Rattle.rules.specs.Decoded.{column}
 use Rattle.rules.proofs.Sound.{Sound}
@@ -56,7 +56,7 @@ unfolding roomOf propOf
 loaded s sound loads =
     record { sound = sound; loads = loads; room-lt = λ w. field-lt s _ 24; prop-lt = λ w. field-lt s _ 10 }
 
-pub backlog-is : (t : View) (w : ℕ) → backlog t w ≡ sum (shareOf t (known t w) w) (t .channels) / t .hyper
+pub backlog-is : (t : View) (w : ℕ) → backlog t w ≡ sum (shareOf t (known t w) w) (t .channels) / t .hyper + only (carries t w) (t .rate w * K t w)
 unfolding backlog backlogAfter
 backlog-is t w = refl
 
@@ -137,7 +137,7 @@ module _ (t : View) (loaded : Loaded t) (w : ℕ) (backlogs delays jitters ends 
     pub jitter-told : (k : ℕ) → k < t .channels → on t w k ≡ true → getD jitters k 0 ≡ jitter t (known t w) w k
     jitter-told k l there = jitter-at k l ∙ sym (known-gathered k l there)
 
-  pub shares-small : w < t .wires → sum (shareOf t (known t w) w) (t .channels) < 2 ^ 64
+  pub shares-small : w < t .wires → sum (shareOf t (known t w) w) (t .channels) < 2 ^ 63
   shares-small l =
       let sound = loaded .sound in
       let most : load t w ≤ 100 * hyperMost = le-trans (loaded .loads w l) (mul-le-mul (sound .rate-most w l) (sound .hyper-most)) in

@@ -1,10 +1,12 @@
 -- What one stage of the bounds tells the next.
 use mathlib.Core.Path.{_≡_}
-use mathlib.Core.Bool.{false}
+use mathlib.Core.Bool.{false, cond}
 use mathlib.Core.List.{List}
-use Prim.Native.Nat.{ℕ, _*_}
-use lib.ListN.{getD}
+use Prim.Native.Nat.{ℕ, _*_, _<_}
+use lib.ListN.{length, getD}
 use lib.Dec.{leb}
+use Rattle.rules.specs.Words.{begins, some}
+use Rattle.rules.specs.Price.{fullFrame}
 use Rattle.rules.specs.Numbers.{wiresMost, channelsMost}
 use Rattle.rules.specs.Replies.{Reply, test}
 use Rattle.rules.specs.Table.{View}
@@ -20,6 +22,14 @@ part t k = cost t k * times t k
 -- the channels below c are filed under the wires of their routes
 abbrev pub FiledBelow : View → ℕ → List ℕ → List ℕ → List ℕ → Type 0
 FiledBelow t c list counts loads = Filing (on t) (part t) c (λ w. false) list counts loads
+
+-- what Q-4's K goes by, of a wire: two full frames where the route of a channel below c begins with it, else one
+abbrev pub aheadOf : View → ℕ → ℕ → ℕ
+aheadOf t c w = cond (some (λ k. begins w (t .route k)) c) (2 * fullFrame) fullFrame
+
+pub record AheadBelow (t : View) (c : ℕ) (ahead : List ℕ) : Type 0 where
+  pub same-length : length ahead ≡ wiresMost
+  pub told : (w : ℕ) → w < wiresMost → getD ahead w 0 ≡ aheadOf t c w
 
 -- figure i is over its limit, times a factor: a refusal with this number
 abbrev pub limitTest : List ℕ → List ℕ → ℕ → ℕ → ℕ → Reply → Reply

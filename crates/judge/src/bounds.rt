@@ -5,9 +5,11 @@ ghost use mathlib.Core.Bool.{true};
 ghost use Prim.Native.Nat.{ℕ, _+_, _-_, _*_, _^_, _≤_, _<_};
 ghost use lib.ListN.{length, getD};
 ghost use mathlib.Core.List.{[]};
-ghost use Rattle.rules.specs.Words.{sum as sumOf, up};
+ghost use lib.Dec.{ltb};
+ghost use Rattle.rules.specs.Words.{sum as sumOf, up, only};
 ghost use Rattle.rules.specs.Numbers.{wiresMost, channelsMost, hopsMost};
 ghost use Rattle.rules.specs.Replies.{Reply, granted, each};
+ghost use Rattle.rules.specs.Price.{fullFrame};
 ghost use Rattle.rules.specs.Table.{viewOf};
 ghost use Rattle.rules.specs.Reading.{reading};
 ghost use Rattle.rules.specs.Bounds.{cost, times as timesOf, on, load as loadOf, shareOf, known, jitter as jitterOf};
@@ -16,8 +18,9 @@ ghost use Rattle.rules.specs.Decoded.{tableOf, column};
 ghost use Rattle.rules.proofs.Sound.{Sound};
 ghost use Rattle.table.specs.Stages.{after, IfRead};
 ghost use Rattle.judge.specs.Filed.{Stretch, Raised};
-ghost use Rattle.judge.specs.Figures.{FiledBelow, part as partOf, limitTest, WorkedOut};
+ghost use Rattle.judge.specs.Figures.{FiledBelow, part as partOf, AheadBelow, aheadOf, limitTest, WorkedOut};
 use rules::Reading;
+use rules::Row;
 use rules::Table;
 
 // Of each wire a stretch of channels.
@@ -93,6 +96,21 @@ fn file(
             count,
             load,
         );
+    }
+}
+
+// A wire that is first on some route may be held for two full frames; before, each has one.
+fn file_firsts(table: &[u8], t: Table, ahead: &mut [u64; Table::WIRES_MOST])
+    requires { ⌜ Sound (viewOf (now table)) ⌝ }
+    requires { ⌜ t ≡ tableOf (viewOf (now table)) ⌝ }
+    requires { ⌜ AheadBelow (viewOf (now table)) 0 (now ahead) ⌝ }
+    ensures { λ _. ⌜ AheadBelow (viewOf (now (table .entry))) (viewOf (now (table .entry)) .channels) (now (ahead .exit)) ⌝ }
+{
+    let m = t.channels;
+    let route = t.route;
+    for c in 0..m {
+        let w = wide(route[Table::HOPS_MOST * c]);
+        ahead[w] = 2 * Row::FULL_FRAME;
     }
 }
 
@@ -181,6 +199,17 @@ fn slots(backlog: u64, rate: u64) -> u64
     (backlog + (rate - 1)) / rate
 }
 
+// rate × K, on a wire that carries channels, of which there are `count`
+fn hold(count: usize, ahead: u64, rate: u64) -> u64
+    requires { ⌜ (1 ≤ rate) × (rate ≤ 100) × (ahead ≤ 2 * fullFrame) ⌝ }
+    ensures { λ r. ⌜ r ≡ only (ltb 0 count) (rate * up ahead rate) ⌝ }
+{
+    if count == 0 {
+        return 0;
+    }
+    rate * slots(ahead, rate)
+}
+
 fn less_one(d: u64) -> u64
     ensures { λ r. ⌜ r ≡ d - 1 ⌝ }
 {
@@ -206,10 +235,12 @@ fn walk(
     t: Table,
     list: &[u8; FILED_MOST],
     count: &[usize; Table::WIRES_MOST],
+    ahead: &[u64; Table::WIRES_MOST],
 ) -> Worked
     requires { ⌜ Sound (viewOf (now table)) ⌝ }
     requires { ⌜ t ≡ tableOf (viewOf (now table)) ⌝ }
     requires { ⌜ ((w : ℕ) → w < wiresMost → Stretch (on (viewOf (now table)) w) (viewOf (now table) .channels) (now list) (channelsMost * w) (getD (now count) w 0)) ⌝ }
+    requires { ⌜ AheadBelow (viewOf (now table)) (viewOf (now table) .channels) (now ahead) ⌝ }
     requires { ⌜ ((w : ℕ) → w < viewOf (now table) .wires → loadOf (viewOf (now table)) w ≤ viewOf (now table) .rate w * viewOf (now table) .hyper) ⌝ }
     ensures { λ r. ⌜ ((rest : Reply) → each (roomTest (viewOf (now (table .entry)))) 0 (viewOf (now (table .entry)) .wires) rest ≡ after (r .answer) rest) ⌝ }
     ensures { λ r. ⌜ IfRead (r .answer) (WorkedOut (viewOf (now (table .entry))) r) ⌝ }
@@ -226,7 +257,8 @@ fn walk(
     let mut jitter = [0u64; Table::CHANNELS_MOST];
     let mut end = [0u64; Table::CHANNELS_MOST];
     for w in 0..n {
-        let bytes = shares(table, w, count[w], list, hyper, &price, &times, &jitter) / hyper;
+        let held = hold(count[w], ahead[w], rate[w]);
+        let bytes = shares(table, w, count[w], list, hyper, &price, &times, &jitter) / hyper + held;
         if room[w] < bytes {
             return unworked(Reading::Refused(13, w as u64));
         }
@@ -267,12 +299,14 @@ pub(crate) fn bounds(table: &[u8], t: Table) -> Worked
     let mut list = [0u8; FILED_MOST];
     let mut count = [0usize; Table::WIRES_MOST];
     let mut load = [0u64; Table::WIRES_MOST];
+    let mut ahead = [Row::FULL_FRAME; Table::WIRES_MOST];
     file(table, t, &mut list, &mut count, &mut load);
+    file_firsts(table, t, &mut ahead);
     let loads = none_over(&load, &rate, hyper, n, 12);
     if let Reading::Refused(_, _) = loads {
         return unworked(loads);
     }
-    let worked = walk(table, t, &list, &count);
+    let worked = walk(table, t, &list, &count, &ahead);
     let rooms = worked.answer;
     if let Reading::Refused(_, _) = rooms {
         return worked;

@@ -13,7 +13,7 @@ use Rattle.rules.specs.Price.{smallFrame}
 use Rattle.rules.specs.Table.{View}
 use Rattle.rules.specs.Bounds.{cost, on, along, jitter, shareOf, backlogAfter, delayAfter, delaysBelow, known, backlog, delay}
 use Rattle.rules.proofs.Sound.{Sound, Climbs}
-use Rattle.rules.proofs.Sums.{sum-has, sum-none, sum-same}
+use Rattle.rules.proofs.Sums.{sum-has, sum-none, sum-same, none-some}
 use Rattle.rules.proofs.Prices.{price-least}
 use Rattle.rules.proofs.Routes.{along-same}
 
@@ -64,7 +64,7 @@ delay-least t sound w k lw lk there =
     let share : cost t k * t .hyper ≤ shareOf t (known t w) w k = rw there (omega arith) in
     let dear : smallFrame * t .hyper ≤ cost t k * t .hyper = mul-le-mul-right (t .hyper) (prices-least t sound k lk) in
     let some : 1 ≤ shares / t .hyper = le-div-iff-mul-le (sound .hyper-least) .1 (omega (arith, sum-has (shareOf t (known t w) w) (t .channels) k lk)) in
-    le-div-iff-mul-le (sound .rate-least w lw) .1 (omega (arith, sound .rate-least w lw))
+    le-div-iff-mul-le (sound .rate-least w lw) .1 (omega (arith, some, sound .rate-least w lw))
 
 -- A wire that no route uses has backlog 0 and delay 0.
 pub unused :
@@ -74,5 +74,6 @@ unfolding backlog delay delayAfter backlogAfter shareOf
 unused t w h l off =
     let none : sum (shareOf t (known t w) w) (t .channels) ≡ 0 =
     sum-same (shareOf t (known t w) w) (λ k. 0) (t .channels) (λ k lk. rw (off k lk) refl) ∙ sum-none (t .channels) in
-    let no-backlog : sum (shareOf t (known t w) w) (t .channels) / t .hyper ≡ 0 = rw none (div-eq-of-lt h) in
+    let no-backlog : backlogAfter t (known t w) w ≡ 0 =
+    rw (none, none-some (on t w) (t .channels) off) (omega (arith, div-eq-of-lt h)) in
     (no-backlog, rw no-backlog (div-eq-of-lt (omega arith)))

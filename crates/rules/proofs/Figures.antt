@@ -1,23 +1,26 @@
 -- Demand 3 to the figures: no wire holds more than its backlog, and a message is whole by its channel's end-to-end delay.
 use mathlib.Core.Path.{_≡_, refl, ap, _∙_}
+use mathlib.Core.Bool.{false}
 use mathlib.Core.Logic.{inl, inr}
+use mathlib.Core.List.{[]}
 use Prim.Native.Nat.{ℕ, zero, suc, _+_, _-_, _*_, _/_, _≤_, _<_}
 use native.Mathlib.Nat.{mul-le-mul-left, lt-div-mul-add, eq-zero-or-pos}
-use native.Mathlib.Decide.{decLe}
+use native.Mathlib.Decide.{decLe, ℕ-discrete}
 use native.Mathlib.Omega.{arith}
+use borrow.Author.Tests.{eq-eqb, ne-eqb}
 use Rattle.rules.specs.Words.{sum, total, only, gathered}
 use Rattle.rules.specs.Price.{price, lastBytes}
 use Rattle.rules.specs.Table.{View, lastWire}
-use Rattle.rules.specs.Bounds.{cost, times, on, loadOf, load, shareOf, backlogAfter, known, backlog, delay, endToEnd}
-use Rattle.rules.specs.Machine.{Frame, Releases, Keeps, Run, AnyOrder, message, sending, unsent, Gone, reaching, delivered, ofChannel}
+use Rattle.rules.specs.Bounds.{cost, times, on, carries, K, loadOf, load, shareOf, backlogAfter, known, backlog, delay, endToEnd}
+use Rattle.rules.specs.Machine.{Frame, Releases, Keeps, Holding, Run, Allowed, AnyOrder, message, sending, bytes, unsent, Gone, reaching, delivered, ofChannel}
 use Rattle.rules.proofs.Sound.{Sound}
-use Rattle.rules.proofs.Sums.{sum-le, sum-add, sum-scale, sum-none, sum-alone, sum-grows, total-gathered}
+use Rattle.rules.proofs.Sums.{sum-le, sum-same, sum-add, sum-scale, sum-none, sum-alone, sum-grows, total-gathered, total-empty, some-none}
 use Rattle.rules.proofs.Orders.{bool-cases, same, any-order-complete}
 use Rattle.rules.proofs.Prices.{frames-price, price-grows}
 use Rattle.rules.proofs.Routes.{nowhere-off, last-there, last-total, route-same, along-add, climbs-below}
 use Rattle.rules.proofs.Gaps.{window-most}
 use Rattle.rules.proofs.Delays.{jitter-known, delay-enough, delay-least}
-use Rattle.rules.proofs.Server.{Server, Bursts, Passes, before, sizeOf}
+use Rattle.rules.proofs.Server.{Server, Bursts, Passes, before, sizeOf, balance}
 use Rattle.rules.proofs.Flow.{own, young, into, total-channel, total-born, total-message, message-young, message-other, none-into, reached, came-sum, came-own, flows, window, longer, shortest}
 use Rattle.rules.proofs.Network.{network}
 
@@ -105,10 +108,49 @@ module _ (t : View) (released : Releases) (k r : ℕ) (g : Frame → ℕ) where
 abbrev lagOf : View → ℕ → ℕ
 lagOf t v = delay t v - 1
 
+-- A slot held is one less to come; a slot not held sends the rate.
+held-less : (rate now next : ℕ) → next ≡ now - 1 → rate * next + rate ≤ rate * now + sending rate now + 0
+held-less rate now next e =
+    elim (ℕ-discrete now 0) [
+      | yes free ↦
+          (let last : next ≡ 0 = omega arith in
+          rw (eq-eqb now 0 free) (omega (arith, ap (λ (x : ℕ). rate * x) last)))
+      | no holds ↦
+          (let one-less : now ≡ next + 1 = omega arith in
+          rw (ne-eqb now 0 holds) (omega (arith, ap (λ (x : ℕ). rate * x) one-less)))
+    ]
+
 module _
     (t : View) (sound : Sound t) (fits : (w : ℕ) → w < t .wires → load t w ≤ t .rate w * t .hyper)
-    (released : Releases) (keeps : Keeps t released) (run : Run t released)
+    (released : Releases) (keeps : Keeps t released) (held : Holding) (run : Run t released held) (allowed : Allowed run)
   where
+    -- what stands in the way of wire w: the bytes of the slots that it is still held
+    abbrev blocked : ℕ → ℕ → ℕ
+    blocked w s = t .rate w * held w s
+
+    -- Q-4's hold is what stands in the way: a slot that is held is one less to come.
+    base : (w : ℕ) → w < t .wires → Server (t .rate w) (λ s. sending (t .rate w) (held w s)) (blocked w) (λ s. 0) (run .queue w) (run .arrived w) (run .gone w)
+    unfolding bytes total
+    base w l =
+        record {
+          empty = run .empty w l;
+          sends = λ s. run .sends w s l;
+          keeps = λ s. run .keeps w s l;
+          serves = λ s more. held-less (t .rate w) (held w s) (held w (suc s)) (allowed .not-again w s l (λ e. omega (arith, ap bytes e)));
+        }
+
+    -- To a wire that carries no channel nothing comes.
+    idle : (w : ℕ) → w < t .wires → carries t w ≡ false → (a : ℕ) → (run .queue w a ≡ []) × (run .arrived w a ≡ [])
+    unfolding sum
+    idle w l off a =
+        let one : Frame → ℕ = λ f. 1 in
+        let none : (n : ℕ) → before (run .arrived w) one n ≡ 0 =
+        λ n. came-sum t released (run .arrived) (run .gone) (run .any-order) w l one n
+        ∙ sum-same _ (λ k. 0) (t .channels) (λ k lk. none-into t released (run .gone) w k (nowhere-off w (t .route k) (some-none (on t w) (t .channels) off k lk)) one n)
+        ∙ sum-none (t .channels) in
+        let waits = balance (t .rate w) _ (blocked w) (λ s. 0) (run .queue w) (run .arrived w) (run .gone w) (base w l) one a in
+        (total-empty (run .queue w a) (omega (arith, waits, none a)), total-empty (run .arrived w a) (omega (arith, none a, none (suc a))))
+
     -- A channel's share of what comes to a wire in slot a and d further slots, times H.
     module _
         (w : ℕ) (lw : w < t .wires)
@@ -162,7 +204,19 @@ module _
               sum-scale d (loadOf t w) (t .channels),
             )
 
-        burst-rule : Bursts (t .rate w) (λ s. 0) (λ s. 0) (run .queue w) (run .arrived w) (backlog t w)
+        -- What stands in the way where a queue is empty is Q-4's addition: all of it on a wire that carries channels, and
+        -- nothing on another, to which nothing comes.
+        blocked-most : (a : ℕ) → blocked w a ≤ only (carries t w) (t .rate w * K t w)
+        blocked-most a =
+            elim (bool-cases (carries t w)) [
+              | inl some ↦ rw some (mul-le-mul-left (t .rate w) (allowed .at-most w a lw))
+              | inr off ↦
+                  (let none = idle w lw off a in
+                  let free : held w a ≡ 0 = allowed .from-then-on w a lw (none .0) (none .1) in
+                  omega (arith, ap (λ (x : ℕ). t .rate w * x) free))
+            ]
+
+        burst-rule : Bursts (t .rate w) (blocked w) (λ s. 0) (run .queue w) (run .arrived w) (backlog t w)
         unfolding backlog backlogAfter
         burst-rule a d none =
             let x = before (run .arrived w) sizeOf (suc (a + d)) in
@@ -170,16 +224,7 @@ module _
             let shares = sum (shareOf t (known t w) w) (t .channels) in
             let most : x ≤ y + shares / t .hyper =
             divided (t .hyper) x y shares (sound .hyper-least) (omega (arith, shares-most a d, mul-le-mul-left d (fits w lw))) in
-            omega (arith, most, sum-none (suc (a + d)))
-
-    base : (w : ℕ) → w < t .wires → Server (t .rate w) (sending t w) (λ s. 0) (λ s. 0) (run .queue w) (run .arrived w) (run .gone w)
-    base w l =
-        record {
-          empty = run .empty w l;
-          sends = λ s. run .sends w s l;
-          keeps = λ s. run .keeps w s l;
-          serves = λ s more. omega arith;
-        }
+            omega (arith, most, blocked-most a, sum-none (suc (a + d)))
 
     enough :
         (w s : ℕ) → w < t .wires →
@@ -192,9 +237,9 @@ module _
           mul-le-mul-left {m = delay t w} {n = suc (lagOf t w)} (t .rate w) (omega arith),
         )
 
-    wired : (w : ℕ) → w < t .wires → Passes (run .arrived w) (run .gone w) (lagOf t w) × ((s : ℕ) → unsent run w s + 0 ≤ backlog t w)
+    wired : (w : ℕ) → w < t .wires → Passes (run .arrived w) (run .gone w) (lagOf t w) × ((s : ℕ) → unsent run w s + blocked w s ≤ backlog t w)
     wired =
-        network (t .wires) (t .rate) (sending t) (λ w s. 0) (λ w s. 0) (run .queue) (run .arrived) (run .gone) base
+        network (t .wires) (t .rate) (λ w s. sending (t .rate w) (held w s)) blocked (λ w s. 0) (run .queue) (run .arrived) (run .gone) base
         (backlog t) (lagOf t) burst-rule enough
 
     pub backlog-holds : (w slot : ℕ) → w < t .wires → unsent run w slot ≤ backlog t w

@@ -1,10 +1,11 @@
--- Ascending induction. Laws of sums over numbers below a bound, and of totals over lists.
+-- Ascending induction. Laws of sums and tests over numbers below a bound, and of totals over lists.
 use mathlib.Core.Path.{_≡_, refl, ap, sym}
+use mathlib.Core.Bool.{Bool, true, false, _||_}
 use mathlib.Core.List.{List, [], _∷_, _++_, map}
 use Prim.Native.Nat.{ℕ, zero, suc, _+_, _*_, _≤_, _<_}
 use native.Mathlib.Decide.{decLe, ℕ-discrete}
 use native.Mathlib.Omega.{arith}
-use Rattle.rules.specs.Words.{sum, total, gathered}
+use Rattle.rules.specs.Words.{sum, total, gathered, some}
 
 -- ascending: what holds of a number where it holds of all below, holds
 pub ascend : (P : ℕ → Type 0) → ((w : ℕ) → ((v : ℕ) → v < w → P v) → P w) → (w : ℕ) → P w
@@ -77,6 +78,27 @@ sum-alone f n k l h = go n l
           | no d ↦ omega (arith, go n (omega arith), h n d)
         ]
 
+-- some number below n passes a test, or none does
+either-false : (a b : Bool) → a || b ≡ false → (a ≡ false) × (b ≡ false)
+either-false true b e = (e, cc)
+either-false false b e = (refl, e)
+
+module _ (f : ℕ → Bool) where
+  pub some-none : (n : ℕ) → some f n ≡ false → (k : ℕ) → k < n → f k ≡ false
+  unfolding some
+  some-none zero e k l = absurd (omega arith)
+  some-none (suc n) e k l =
+      let both = either-false (some f n) (f n) e in
+      elim (ℕ-discrete k n) [
+        | yes here ↦ rw here (both .1)
+        | no before ↦ some-none n (both .0) k (omega arith)
+      ]
+
+  pub none-some : (n : ℕ) → ((k : ℕ) → k < n → f k ≡ false) → some f n ≡ false
+  unfolding some
+  none-some zero h = refl
+  none-some (suc n) h = rw (none-some n (λ k l. h k (omega arith)), h n (omega arith)) refl
+
 module _ {A : Type 0} where
   pub total-append : (g : A → ℕ) (xs ys : List A) → total g (xs ++ ys) ≡ total g xs + total g ys
   unfolding total
@@ -97,6 +119,11 @@ module _ {A : Type 0} where
   unfolding total
   total-none g [] e = refl
   total-none g (x ∷ xs) e = omega (arith, e x, total-none g xs e)
+
+  pub total-empty : (xs : List A) → total (λ x. 1) xs ≡ 0 → xs ≡ []
+  unfolding total
+  total-empty [] e = refl
+  total-empty (x ∷ xs) e = absurd (omega arith)
 
 pub total-map : {A B : Type 0} (g : B → ℕ) (f : A → B) (xs : List A) → total g (map f xs) ≡ total (λ x. g (f x)) xs
 unfolding total

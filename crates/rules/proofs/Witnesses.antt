@@ -1,27 +1,29 @@
--- The promise is not empty: releases that keep their declaration without end, and runs that reach the figures.
+-- The promise is not empty: releases that keep their declaration without end, and runs that reach the figures, with the
+-- office machines' holds and without.
 use mathlib.Core.Path.{_≡_, refl}
 use mathlib.Core.Bool.{Bool, true, false}
-use mathlib.Core.List.{List, [], _∷_, _++_}
-use Prim.Native.Nat.{ℕ, suc, _-_, _*_, _/_, _%_, _≤_, _<_}
+use mathlib.Core.List.{List, [], _∷_, _++_, map}
+use Prim.Native.Nat.{ℕ, suc, _+_, _-_, _*_, _/_, _%_, _≤_, _<_}
 use native.Mathlib.Nat.{div-add-mod', mul-le-mul-right, mul-mod-left, suc-mul}
 use native.Mathlib.Decide.{decLe, ℕ-discrete}
 use native.Mathlib.Omega.{arith}
-use lib.Dec.{eqb}
+use lib.Dec.{ltb, eqb}
 use borrow.Author.Tests.{eq-eqb, ne-eqb}
 use Rattle.bits.specs.Field.{bit, field}
-use Rattle.rules.specs.Words.{sum, total, listed, gathered, only, has}
+use Rattle.rules.specs.Words.{sum, total, listed, gathered, up, only, has, begins, some}
+use Rattle.rules.specs.Numbers.{rates}
 use Rattle.rules.specs.Replies.{granted, refused, test, each}
 use Rattle.rules.specs.Price.{fullFrame, smallFrame, lastBytes, price, lastFrame, frames}
 use Rattle.rules.specs.Table.{View, viewOf, hyperOf, wiresOf, channelsOf, wireAt, codeOf, rateOf, propOf, roomOf, framingAt, payloadAt, periodAt, deadlineAt, hopsAt, routeAt, channelAt, endOf, fillingOf, after, source, lastWire}
 use Rattle.rules.specs.Reading.{headTests, wireTests, hopTests, recordTests, channelTests, fillingTests, readingTests}
-use Rattle.rules.specs.Bounds.{loadOf, load, along, jitter, shareOf, backlogAfter, delayAfter, delaysBelow, backlog, delay, endToEnd}
+use Rattle.rules.specs.Bounds.{loadOf, load, along, jitter, K, shareOf, backlogAfter, delayAfter, delaysBelow, backlog, delay, endToEnd}
 use Rattle.rules.specs.Sheet.{figuresAt, endAt, sheetLength}
 use Rattle.rules.specs.Judgement.{loadTest, roomTest, deadlineTest, boundsTests, judge}
-use Rattle.rules.specs.Machine.{Frame, Releases, Keeps, message, ofChannel, bornIn, reaching, dueFrom, due, AnyOrder, none, more, here, sent, kept, bytes, Run, unsent, delivered, Order, arrivals, step, played}
+use Rattle.rules.specs.Machine.{Frame, Releases, Keeps, message, ofChannel, bornIn, reaching, dueFrom, due, AnyOrder, none, more, here, sent, kept, bytes, Run, nobody, unsent, delivered, Order, Choice, arrivals, holding, step, played}
 use Rattle.rules.specs.Cases.{caseA, caseB}
 use Rattle.rules.proofs.Sums.{total-append}
 use Rattle.rules.proofs.Orders.{same, any-order-complete}
-use Rattle.rules.proofs.Played.{played-run}
+use Rattle.rules.proofs.Played.{heldAt, played-run, alone-run}
 
 only-most : (b : Bool) (n : ℕ) → only b n ≤ n
 only-most true n = omega arith
@@ -82,82 +84,111 @@ pub last-first-any : (slot w : ℕ) (fs : List Frame) → AnyOrder fs (last-firs
 last-first-any slot w fs =
     any-order-complete fs (backwards fs) (λ f. backwards-total (λ (x : Frame). only (same f x) 1) fs)
 
+-- As long as they may, in the slots before one.
+abbrev pub longest : View → ℕ → Choice
+longest t end slot w = only (ltb slot end) (K t w)
+
 -- what the computations below see through
 unfoldable pub definitions : Unit {0}
-unfolding bit field sum total has test each lastBytes price hyperOf wiresOf channelsOf wireAt codeOf rateOf propOf roomOf framingAt payloadAt periodAt deadlineAt hopsAt routeAt channelAt endOf fillingOf headTests wireTests hopTests recordTests channelTests fillingTests readingTests loadOf load along jitter shareOf backlogAfter delayAfter delaysBelow backlog delay endToEnd figuresAt endAt sheetLength loadTest roomTest deadlineTest boundsTests judge listed gathered lastFrame frames message ofChannel bornIn after source reaching dueFrom due sent kept bytes lastWire delivered arrivals step played periodic backwards
+unfolding bit field sum total has begins some test each lastBytes price hyperOf wiresOf channelsOf wireAt codeOf rateOf propOf roomOf framingAt payloadAt periodAt deadlineAt hopsAt routeAt channelAt endOf fillingOf headTests wireTests hopTests recordTests channelTests fillingTests readingTests loadOf load along jitter K shareOf backlogAfter delayAfter delaysBelow backlog delay endToEnd figuresAt endAt sheetLength loadTest roomTest deadlineTest boundsTests judge listed gathered lastFrame frames message ofChannel bornIn after source reaching dueFrom due sent kept bytes lastWire delivered arrivals holding step played periodic backwards
 definitions = tt
 
--- Case A: wire 0 holds exactly its backlog, and the message takes exactly its end-to-end delay.
-abbrev pub runA : Run (viewOf caseA) (periodic (viewOf caseA))
-runA = played-run (viewOf caseA) (periodic (viewOf caseA)) in-turn in-turn-any
+-- K by rate: of a wire that is first on some route, and of another.
+pub holds-by-rate :
+    (map (up (2 * fullFrame)) rates ≡ 3084 ∷ 309 ∷ 31 ∷ []) × (map (up fullFrame) rates ≡ 1542 ∷ 155 ∷ 16 ∷ [])
+holds-by-rate = (refl, refl)
+
+-- A wire held as long as it may be: H 1; one wire of rate 100; a channel of payload 50, period 1. It holds exactly its backlog
+-- in slot 31, and the first message takes exactly its end-to-end delay.
+abbrev pub heldUp : List ℕ
+heldUp = 0x00 ∷ 0x00 ∷ 0x01 ∷ 0x02 ∷ 0x03 ∷ 0x00 ∷ 0x00 ∷ 0x01 ∷ 0x90 ∷ 0x00 ∷ 0x03 ∷ 0x20 ∷ 0x00 ∷ 0x00 ∷ 0x10 ∷ 0x00 ∷ 0x02 ∷ 0x01 ∷ 0x00 ∷ []
+
+abbrev pub runHeld : Run (viewOf heldUp) (periodic (viewOf heldUp)) (heldAt (viewOf heldUp) (periodic (viewOf heldUp)) in-turn (longest (viewOf heldUp) 1))
+runHeld = played-run (viewOf heldUp) (periodic (viewOf heldUp)) in-turn (longest (viewOf heldUp) 1) in-turn-any
+
+pub held-accepted : judge heldUp 12 ≡ granted (12 ∷ [])
+unfolding definitions
+held-accepted = refl
+
+pub held-figures : (K (viewOf heldUp) 0 ≡ 31) × (backlog (viewOf heldUp) 0 ≡ 3200) × (endToEnd (viewOf heldUp) 0 ≡ 32)
+unfolding definitions
+held-figures = (refl, refl, refl)
+
+pub held-unsent : unsent runHeld 0 31 ≡ backlog (viewOf heldUp) 0
+unfolding definitions
+held-unsent = refl
+
+pub held-message : message (viewOf heldUp) (periodic (viewOf heldUp)) 0 0 ≡ record { channel = 0; born = 0; size = 100 } ∷ []
+unfolding definitions
+held-message = refl
+
+pub held-early : delivered (viewOf heldUp) (runHeld .gone) 0 0 (endToEnd (viewOf heldUp) 0 - 1) ≡ []
+unfolding definitions
+held-early = refl
+
+pub held-there :
+    delivered (viewOf heldUp) (runHeld .gone) 0 0 (endToEnd (viewOf heldUp) 0)
+    ≡ message (viewOf heldUp) (periodic (viewOf heldUp)) 0 0
+unfolding definitions
+held-there = refl
+
+-- A later wire, with a jitter that counts: H 96; four wires of rate 100; of wires 0, 1 and 2 each a channel of payload 50,
+-- period 96, that uses no other wire, and one of payload 50, period 3, that goes on to wire 3. Each of those three wires is
+-- held from slot 0 on, then sends the first channel's frame, then one of the second channel's in each slot, the last of
+-- which is not held back; wire 3 is held when the first of them comes. It holds exactly its backlog in slot 49. A wire that
+-- is first on some route and one that is not have different K.
+abbrev pub later : List ℕ
+later = 0x00 ∷ 0x00 ∷ 0x60 ∷ 0x08 ∷ 0x0d ∷ 0x00 ∷ 0x00 ∷ 0x01 ∷ 0x9c ∷ 0x90 ∷ 0x00 ∷ 0x00 ∷ 0x19 ∷ 0xc9 ∷ 0x00 ∷ 0x00 ∷ 0x01 ∷ 0x9c ∷ 0x90 ∷ 0x00 ∷ 0x00 ∷ 0x27 ∷ 0xd8 ∷ 0x00 ∷ 0x32 ∷ 0x00 ∷ 0x00 ∷ 0x60 ∷ 0x00 ∷ 0x00 ∷ 0x21 ∷ 0x10 ∷ 0x00 ∷ 0x06 ∷ 0x40 ∷ 0x00 ∷ 0x0c ∷ 0x00 ∷ 0x00 ∷ 0x04 ∷ 0x22 ∷ 0x08 ∷ 0x00 ∷ 0xc8 ∷ 0x00 ∷ 0x01 ∷ 0x80 ∷ 0x00 ∷ 0x00 ∷ 0x84 ∷ 0x42 ∷ 0x00 ∷ 0x19 ∷ 0x00 ∷ 0x00 ∷ 0x01 ∷ 0x80 ∷ 0x00 ∷ 0x2a ∷ 0x10 ∷ 0x01 ∷ 0x80 ∷ 0x0c ∷ 0x80 ∷ 0x00 ∷ 0x00 ∷ 0xc0 ∷ 0x00 ∷ 0x15 ∷ 0x08 ∷ 0x10 ∷ 0xc0 ∷ 0x06 ∷ 0x40 ∷ 0x00 ∷ 0x00 ∷ 0x60 ∷ 0x00 ∷ 0x0a ∷ 0x84 ∷ 0x10 ∷ 0x60 ∷ []
+
+abbrev pub runLater : Run (viewOf later) (periodic (viewOf later)) (heldAt (viewOf later) (periodic (viewOf later)) in-turn (longest (viewOf later) 34))
+runLater = played-run (viewOf later) (periodic (viewOf later)) in-turn (longest (viewOf later) 34) in-turn-any
+
+pub later-accepted : judge later 47 ≡ granted (47 ∷ [])
+unfolding definitions
+later-accepted = refl
+
+pub later-figures : (K (viewOf later) 0 ≡ 31) × (K (viewOf later) 3 ≡ 16) × (backlog (viewOf later) 3 ≡ 5100)
+unfolding definitions
+later-figures = (refl, refl, refl)
+
+pub later-unsent : unsent runLater 3 49 ≡ backlog (viewOf later) 3
+unfolding definitions
+later-unsent = refl
+
+-- Case A where nobody holds: the message takes the slots of its bytes, and the propagation.
+abbrev pub runA : Run (viewOf caseA) (periodic (viewOf caseA)) nobody
+runA = alone-run (viewOf caseA) (periodic (viewOf caseA)) in-turn in-turn-any
 
 pub a-accepted : judge caseA 12 ≡ granted (12 ∷ [])
 unfolding definitions
 a-accepted = refl
-
-pub a-unsent : unsent runA 0 0 ≡ backlog (viewOf caseA) 0
-unfolding definitions
-a-unsent = refl
 
 pub a-message :
     message (viewOf caseA) (periodic (viewOf caseA)) 0 0 ≡ record { channel = 0; born = 0; size = smallFrame } ∷ []
 unfolding definitions
 a-message = refl
 
-pub a-early : delivered (viewOf caseA) (runA .gone) 0 0 (endToEnd (viewOf caseA) 0 - 1) ≡ []
+pub a-unsent : unsent runA 0 0 ≡ smallFrame
+unfolding definitions
+a-unsent = refl
+
+pub a-early : delivered (viewOf caseA) (runA .gone) 0 0 (smallFrame + viewOf caseA .prop 0 - 1) ≡ []
 unfolding definitions
 a-early = refl
 
 pub a-there :
-    delivered (viewOf caseA) (runA .gone) 0 0 (endToEnd (viewOf caseA) 0)
+    delivered (viewOf caseA) (runA .gone) 0 0 (smallFrame + viewOf caseA .prop 0)
     ≡ message (viewOf caseA) (periodic (viewOf caseA)) 0 0
 unfolding definitions
 a-there = refl
 
--- A later wire, with a jitter that counts: H 4; two wires of rate 100; channel 0 payload 1, period 2, route 0, 1; channel 1
--- payload 71, period 4, route 0. Channel 1's frame goes first and holds channel 0's first back until its second is close
--- behind; at wire 1 the second goes first. Wire 1 holds exactly its backlog, and the first message takes exactly its
--- end-to-end delay.
-abbrev pub later : List ℕ
-later = 0x00 ∷ 0x00 ∷ 0x04 ∷ 0x04 ∷ 0x05 ∷ 0x00 ∷ 0x00 ∷ 0x00 ∷ 0x1a ∷ 0x30 ∷ 0x00 ∷ 0x00 ∷ 0x01 ∷ 0x60 ∷ 0x00 ∷ 0x01 ∷ 0x00 ∷ 0x00 ∷ 0x02 ∷ 0x00 ∷ 0x00 ∷ 0x05 ∷ 0x20 ∷ 0x01 ∷ 0x00 ∷ 0x23 ∷ 0x80 ∷ 0x00 ∷ 0x02 ∷ 0x00 ∷ 0x00 ∷ 0x01 ∷ 0x88 ∷ 0x00 ∷ []
-
-abbrev pub runLater : Run (viewOf later) (periodic (viewOf later))
-runLater = played-run (viewOf later) (periodic (viewOf later)) last-first last-first-any
-
-pub later-accepted : judge later 21 ≡ granted (21 ∷ [])
-unfolding definitions
-later-accepted = refl
-
-pub later-figures : (backlog (viewOf later) 1 ≡ 176) × (endToEnd (viewOf later) 0 ≡ 5)
-unfolding definitions
-later-figures = (refl, refl)
-
-pub later-unsent : unsent runLater 1 3 ≡ backlog (viewOf later) 1
-unfolding definitions
-later-unsent = refl
-
-pub later-message :
-    message (viewOf later) (periodic (viewOf later)) 0 0 ≡ record { channel = 0; born = 0; size = smallFrame } ∷ []
-unfolding definitions
-later-message = refl
-
-pub later-early : delivered (viewOf later) (runLater .gone) 0 0 (endToEnd (viewOf later) 0 - 1) ≡ []
-unfolding definitions
-later-early = refl
-
-pub later-there :
-    delivered (viewOf later) (runLater .gone) 0 0 (endToEnd (viewOf later) 0)
-    ≡ message (viewOf later) (periodic (viewOf later)) 0 0
-unfolding definitions
-later-there = refl
-
--- Two frames: H 100; two wires of rate 100, propagation 3 and 5; a channel of payload 1,493, period 100, route 0, 1. The
--- message is there with its second frame, not with its first.
+-- Two frames: H 100; two wires of rate 100, propagation 3 and 5; a channel of payload 1,493, period 100, route 0, 1. Nobody
+-- holds; the message is there with its second frame, not with its first.
 abbrev pub twoFrames : List ℕ
-twoFrames = 0x00 ∷ 0x00 ∷ 0x64 ∷ 0x04 ∷ 0x03 ∷ 0x00 ∷ 0x60 ∷ 0x00 ∷ 0xcb ∷ 0xd0 ∷ 0x0a ∷ 0x00 ∷ 0x0e ∷ 0xc4 ∷ 0x05 ∷ 0xd5 ∷ 0x00 ∷ 0x00 ∷ 0x64 ∷ 0x00 ∷ 0x00 ∷ 0x2c ∷ 0x20 ∷ 0x01 ∷ []
+twoFrames = 0x00 ∷ 0x00 ∷ 0x64 ∷ 0x04 ∷ 0x03 ∷ 0x00 ∷ 0x60 ∷ 0x02 ∷ 0x4f ∷ 0x50 ∷ 0x0a ∷ 0x00 ∷ 0x1f ∷ 0x38 ∷ 0x05 ∷ 0xd5 ∷ 0x00 ∷ 0x00 ∷ 0x64 ∷ 0x00 ∷ 0x00 ∷ 0x60 ∷ 0x20 ∷ 0x01 ∷ []
 
-abbrev pub runTwo : Run (viewOf twoFrames) (periodic (viewOf twoFrames))
-runTwo = played-run (viewOf twoFrames) (periodic (viewOf twoFrames)) in-turn in-turn-any
+abbrev pub runTwo : Run (viewOf twoFrames) (periodic (viewOf twoFrames)) nobody
+runTwo = alone-run (viewOf twoFrames) (periodic (viewOf twoFrames)) in-turn in-turn-any
 
 pub two-accepted : judge twoFrames 18 ≡ granted (18 ∷ [])
 unfolding definitions

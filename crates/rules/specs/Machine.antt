@@ -5,9 +5,10 @@ use mathlib.Core.List.{List, [], _∷_, _++_, map}
 use Prim.Native.Nat.{ℕ, zero, suc, _+_, _-_, _≤_, _<_}
 use lib.ListN.{getD, replicate}
 use lib.Dec.{leb, eqb}
-use Rattle.rules.specs.Words.{total, listed, gathered}
+use Rattle.rules.specs.Words.{total, listed, gathered, cut}
 use Rattle.rules.specs.Price.{frames}
 use Rattle.rules.specs.Table.{View, Source, nowhere, release, wire, source, lastWire}
+use Rattle.rules.specs.Bounds.{K}
 
 -- A frame, with its message: the channel, and the slot of its release.
 pub record Frame : Type 0 where
@@ -93,22 +94,40 @@ bytes q = total (λ (x : Waiting). x .left) q
 abbrev pub joined : List Waiting → List Frame → List Waiting
 joined queue arrivals = queue ++ map whole arrivals
 
--- the bytes that wire w may send in a slot
-abbrev pub sending : View → ℕ → ℕ → ℕ
-sending t w slot = t .rate w
+-- Request Q-4, the office machines: for each wire and slot, how many slots the wire is still held, this one counted.
+abbrev pub Holding : Type 0
+Holding = ℕ → ℕ → ℕ
+
+-- the bytes that a wire may send in a slot: none where it is held
+abbrev pub sending : ℕ → ℕ → ℕ
+sending rate held = cond (eqb held 0) rate 0
 
 -- A run, for each wire and slot: the queue before the slot, what arrives, what is gone.
-pub record Run (t : View) (released : Releases) : Type 0 where
+pub record Run (t : View) (released : Releases) (held : Holding) : Type 0 where
   pub queue : ℕ → ℕ → List Waiting
   pub arrived : ℕ → ℕ → List Frame
   pub gone : Gone
   pub empty : (w : ℕ) → w < t .wires → queue w 0 ≡ []
   pub any-order : (w slot : ℕ) → w < t .wires → AnyOrder (due t released gone w slot) (arrived w slot)
-  pub sends : (w slot : ℕ) → w < t .wires → gone w slot ≡ sent (sending t w slot) (joined (queue w slot) (arrived w slot))
-  pub keeps : (w slot : ℕ) → w < t .wires → queue w (suc slot) ≡ kept (sending t w slot) (joined (queue w slot) (arrived w slot))
+  pub sends : (w slot : ℕ) → w < t .wires → gone w slot ≡ sent (sending (t .rate w) (held w slot)) (joined (queue w slot) (arrived w slot))
+  pub keeps : (w slot : ℕ) → w < t .wires → queue w (suc slot) ≡ kept (sending (t .rate w) (held w slot)) (joined (queue w slot) (arrived w slot))
+
+-- Request Q-4's three conditions on whoever runs the cabins; where listed frames reach an empty queue, any number of slots
+-- from 0 to K may be chosen.
+pub record Allowed {t : View} {released : Releases} {held : Holding} (run : Run t released held) : Type 0 where
+  -- When listed frames reach an empty queue, a wire may be held from that slot on:
+  pub from-then-on : (w slot : ℕ) → w < t .wires → run .queue w slot ≡ [] → run .arrived w slot ≡ [] → held w slot ≡ 0
+  -- at most K slots in a row,
+  pub at-most : (w slot : ℕ) → w < t .wires → held w slot ≤ K t w
+  -- and not again until that queue has run empty after sending.
+  pub not-again : (w slot : ℕ) → w < t .wires → ¬ (run .queue w (suc slot) ≡ []) → held w (suc slot) ≡ held w slot - 1
+
+-- nobody holds
+abbrev pub nobody : Holding
+nobody w slot = 0
 
 -- Backlog is counted after arrivals and before sending.
-abbrev pub unsent : {t : View} {released : Releases} → Run t released → ℕ → ℕ → ℕ
+abbrev pub unsent : {t : View} {released : Releases} {held : Holding} → Run t released held → ℕ → ℕ → ℕ
 unsent run w slot = bytes (joined (run .queue w slot) (run .arrived w slot))
 
 -- The frames of channel k's message of slot r that have reached the destination by a slot.
@@ -116,17 +135,26 @@ unfoldable pub delivered : View → Gone → ℕ → ℕ → ℕ → List Frame
 delivered t gone k r slot =
     bornIn r (ofChannel k (gathered (reaching t gone (lastWire (t .route k))) (suc slot)))
 
--- The step function. An adversary orders what is due, for each slot and wire.
+-- The step function. An adversary orders what is due, for each slot and wire, and chooses how many slots the wire is held
+-- from this one on, cut to K, where it may.
 abbrev pub Order : Type 0
 Order = ℕ → ℕ → List Frame → List Frame
 
--- Before a slot: each wire's queue, and what was gone in each slot before, the last first.
+abbrev pub Choice : Type 0
+Choice = ℕ → ℕ → ℕ
+
+-- Before a slot: each wire's queue, how many slots it was still held in the slot before, and what was gone in each slot
+-- before, the last first.
 pub record State : Type 0 where
   pub queues : List (List Waiting)
+  pub holds : List ℕ
   pub past : List (List (List Frame))
 
 abbrev pub queueIn : State → ℕ → List Waiting
 queueIn state w = getD (state .queues) w []
+
+abbrev pub heldIn : State → ℕ → ℕ
+heldIn state w = getD (state .holds) w 0
 
 -- seen from before `slot`
 abbrev pub goneIn : State → ℕ → Gone
@@ -135,14 +163,23 @@ goneIn state slot v earlier = getD (getD (state .past) (slot - suc earlier) []) 
 unfoldable pub arrivals : View → Releases → Order → ℕ → State → ℕ → List Frame
 arrivals t released order slot state w = order slot w (due t released (goneIn state slot) w slot)
 
-unfoldable pub step : View → Releases → Order → ℕ → State → State
-step t released order slot state =
+-- Of a queue before and after arrivals: nothing is held where nothing waits; where frames reach an empty queue, what is
+-- chosen; else what is left of the hold.
+unfoldable pub holding : List Waiting → List Waiting → ℕ → ℕ → ℕ
+holding [] [] chosen left = 0
+holding [] (x ∷ full) chosen left = chosen
+holding (x ∷ queue) full chosen left = left
+
+unfoldable pub step : View → Releases → Order → Choice → ℕ → State → State
+step t released order choice slot state =
     let full = listed (λ w. joined (queueIn state w) (arrivals t released order slot state w)) (t .wires) in
+    let holds = listed (λ w. holding (queueIn state w) (getD full w []) (cut (choice slot w) (K t w)) (heldIn state w - 1)) (t .wires) in
     record {
-      queues = listed (λ w. kept (sending t w slot) (getD full w [])) (t .wires);
-      past = listed (λ w. sent (sending t w slot) (getD full w [])) (t .wires) ∷ state .past;
+      queues = listed (λ w. kept (sending (t .rate w) (getD holds w 0)) (getD full w [])) (t .wires);
+      holds = holds;
+      past = listed (λ w. sent (sending (t .rate w) (getD holds w 0)) (getD full w [])) (t .wires) ∷ state .past;
     }
 
-unfoldable pub played : View → Releases → Order → ℕ → State
-played t released order zero = record { queues = replicate (t .wires) []; past = [] }
-played t released order (suc slot) = step t released order slot (played t released order slot)
+unfoldable pub played : View → Releases → Order → Choice → ℕ → State
+played t released order choice zero = record { queues = replicate (t .wires) []; holds = replicate (t .wires) 0; past = [] }
+played t released order choice (suc slot) = step t released order choice slot (played t released order choice slot)

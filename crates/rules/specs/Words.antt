@@ -32,6 +32,10 @@ up a b = (a + (b - 1)) / b
 abbrev pub between : ℕ → ℕ → ℕ → Bool
 between low x high = leb low x && leb x high
 
+-- x, and no more than most
+abbrev pub cut : ℕ → ℕ → ℕ
+cut x most = cond (leb x most) x most
+
 -- x where the test holds, else 0
 abbrev pub only : Bool → ℕ → ℕ
 only ok x = cond ok x 0
@@ -40,3 +44,13 @@ only ok x = cond ok x 0
 unfoldable pub has : ℕ → List ℕ → Bool
 has w [] = false
 has w (x ∷ xs) = eqb x w || has w xs
+
+-- the list begins with the number w
+unfoldable pub begins : ℕ → List ℕ → Bool
+begins w [] = false
+begins w (x ∷ xs) = eqb x w
+
+-- the test holds of 0, or 1, .. or n - 1
+unfoldable pub some : (ℕ → Bool) → ℕ → Bool
+some f zero = false
+some f (suc n) = some f n || f n

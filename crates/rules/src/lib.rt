@@ -9,6 +9,13 @@ pub struct Row {
     pub least: u64,
 }
 
+// Bytes on the wire of a full frame, and of the smallest.
+impl Row {
+    pub const FULL_FRAME: u64 = 1_542;
+
+    pub const SMALL_FRAME: u64 = 88;
+}
+
 // Asking a price: the price in bytes. A refusal holds its number and place in every answer.
 pub enum Pricing {
     Price(u64),

@@ -16,8 +16,9 @@ use Rattle.rules.proofs.ReadingLaws.{granted-sound}
 use Rattle.rules.proofs.Columns.{length-column}
 use Rattle.table.specs.Stages.{after}
 use Rattle.table.proofs.Answers.{refusal, read-of}
-use Rattle.judge.specs.Figures.{part, FiledBelow, limitTest, WorkedOut}
+use Rattle.judge.specs.Figures.{part, FiledBelow, AheadBelow, limitTest, WorkedOut}
 use Rattle.judge.proofs.Filing.{filed-none, filed-stretch}
+use Rattle.judge.proofs.Holding.{ahead-none}
 use Rattle.judge.proofs.Told.{Told, told}
 use Rattle.judge.proofs.Limits.{load-limit-fits, load-tests, loads-pass, loads-stop, loads-through, rooms-stop, rooms-through, end-limit-fits, end-tests, deadline-lt, if-read}
 use Rattle.judge.proofs.bounds.bounds.Statement.{statement}
@@ -54,6 +55,16 @@ module _ (c : tie.After-file) where
   filed : FiledBelow (t st) (t st .channels) list counts loads
   filed = c .file .ensures
 
+file-firsts-requires : tie.Need-file-firsts-requires
+file-firsts-requires c κs = let st = st (c .before) in (sound st, (st .pre .1, ahead-none (t st)))
+
+module _ (c : tie.After-file-firsts) where
+  abbrev filing : tie.After-file
+  filing = c .before .before
+
+  ahead-told : AheadBelow (t (st filing)) (t (st filing) .channels) (c .file-firsts .last .1 .1 .0)
+  ahead-told = c .file-firsts .ensures
+
 slice-aggregate-none-over : tie.Need-slice-aggregate-none-over
 slice-aggregate-none-over c = search needs
 
@@ -62,7 +73,7 @@ slice-aggregate-none-over-2 c = search needs
 
 none-over-requires : tie.Need-none-over-requires
 none-over-requires c κs =
-    let f = c .before .before in
+    let f = filing (c .before .before) in
     let st = st f in
     let short = sound st .wires-most in (
       (omega (arith, filed f .loads-length, short, as-read st .wires), omega (arith, ap length (as-read st .rate) ∙ length-column wiresMost _ (t st .wires), short, as-read st .wires)),
@@ -77,7 +88,7 @@ unworked-requires c κs = search needs
 
 module _ (c : tie.After-none-over) where
   abbrev f : tie.After-file
-  f = c .before .before .before
+  f = filing (c .before .before .before)
 
   tested : (rest : Reply) → each (limitTest (loads f) (st f .args .t .rate) (st f .args .t .hyper) 12) 0 (st f .args .t .wires) rest ≡ after (c .none-over .result) rest
   tested = c .none-over .ensures
@@ -96,7 +107,7 @@ enum-told-2 c = search needs
 
 walk-requires : tie.Need-walk-requires
 walk-requires c κs =
-    let n = c .before .before .before .before in
+    let n = c .before .before .before .before .before in
     let f = f n in
     let st = st f in (
       sound st,
@@ -104,7 +115,10 @@ walk-requires c κs =
         st .pre .1,
         (
           filed-stretch (on (t st)) (part (t st)) (t st .channels) (list f) (counts f) (loads f) (filed f) (sound st .channels-most),
-          loads-pass (t st) (loads-through (t st) _ (twelve n) (c .before .before .enum-told2 .given .1)),
+          (
+            ahead-told (n .before .before .before),
+            loads-pass (t st) (loads-through (t st) _ (twelve n) (c .before .before .before .enum-told2 .given .1)),
+          ),
         ),
       ),
     )
@@ -114,13 +128,13 @@ enum-told-3 c = search needs
 
 module _ (c : tie.After-walk) where
   abbrev n : tie.After-none-over
-  n = c .before .before .before .before .before
+  n = c .before .before .before .before .before .before
 
   abbrev first : tie.Start
   first = st (f n)
 
   pass : n .none-over .result ≡ answers.Read
-  pass = c .before .before .before .enum-told2 .given .1
+  pass = c .before .before .before .before .enum-told2 .given .1
 
 returns-2 : tie.Need-returns-2
 returns-2 c =
@@ -183,6 +197,7 @@ bounds-spec =
     tie.close
     (tie.spec
     file-requires
+    file-firsts-requires
     slice-aggregate-none-over
     slice-aggregate-none-over-2
     none-over-requires

@@ -1,12 +1,16 @@
 -- `judge::bounds::walk` meets its contract. The loop's invariant: test 13 from the start is that from wire w, and everything
 -- before wire w is worked out.
 use mathlib.Core.Path.{_≡_, sym, ap, ap₂, _∙_}
+use mathlib.Core.Bool.{Bool}
 use mathlib.Core.List.{List}
-use Prim.Native.Nat.{ℕ, _+_, _-_, _/_, _^_, _≤_, _<_}
+use Prim.Native.Nat.{ℕ, _+_, _-_, _*_, _/_, _^_, _≤_, _<_}
+use native.Mathlib.Nat.{div-le-self}
 use native.Mathlib.Omega.{arith}
 use lib.ListN.{length, getD}
+use lib.Dec.{ltb}
 use borrow.Author.Needs.{needs}
-use Rattle.rules.specs.Words.{up}
+use Rattle.rules.specs.Words.{sum as sumOf, up, only}
+use Rattle.rules.specs.Price.{fullFrame}
 use Rattle.rules.specs.Numbers.{wiresMost, channelsMost}
 use Rattle.rules.specs.Table.{View, viewOf}
 use Rattle.rules.specs.Bounds as bounds
@@ -16,7 +20,9 @@ use Rattle.rules.proofs.Sound.{Sound}
 use Rattle.rules.proofs.Columns.{length-column}
 use Rattle.rules.proofs.Search.{FromHere, from-start, from-next, from-stop, from-end}
 use Rattle.table.proofs.Answers.{refusal}
+use Rattle.judge.specs.Figures.{aheadOf}
 use Rattle.judge.proofs.Told.{Told, told, entry-at}
+use Rattle.judge.proofs.Holding.{hold-is, hold-most, ahead-most}
 use Rattle.judge.proofs.Walk.{delay-up, delay-most}
 use Rattle.judge.proofs.Walking.{Walking, Loaded, loaded, late, spent, backlog-is, walking-start, walking-next, walking-ends, jitter-at, jitter-small, end-at, end-small, jitter-told, shares-small, room-through, room-stops}
 use Rattle.judge.proofs.bounds.walk.Statement.{statement}
@@ -28,10 +34,10 @@ record Here (t : View) (n : ℕ) (backlog delay jitter end : List ℕ) (w : ℕ)
   pub walking : Walking t w backlog delay jitter end
 
 abbrev Inv-loop : tie.InvT-loop
-Inv-loop table list count n hyper rate prop room price times backlog₀ delay₀ jitter₀ end₀ w₀ backlog delay jitter end w = Here (viewOf table) n backlog delay jitter end w
+Inv-loop table list count ahead n hyper rate prop room price times backlog₀ delay₀ jitter₀ end₀ w₀ backlog delay jitter end w = Here (viewOf table) n backlog delay jitter end w
 
 abbrev μ-loop : tie.MeasureT-loop
-μ-loop table list count n hyper rate prop room price times backlog₀ delay₀ jitter₀ end₀ w₀ backlog delay jitter end w = n - w
+μ-loop table list count ahead n hyper rate prop room price times backlog₀ delay₀ jitter₀ end₀ w₀ backlog delay jitter end w = n - w
 
 loop-holds : tie.Need-loop-holds Inv-loop μ-loop
 loop-holds c =
@@ -59,7 +65,7 @@ module _ (c : tie.At-loop Inv-loop μ-loop) where
   as-read = told t (st .args .t) (st .pre .1 .0)
 
   full : Loaded t
-  full = loaded (st .args .table .now) sound (st .pre .1 .1 .1)
+  full = loaded (st .args .table .now) sound (st .pre .1 .1 .1 .1)
 
   walking : Walking t w (c .loop .backlog) (c .loop .delay) (c .loop .jitter) (c .loop .end)
   walking = c .loop .inv .walking
@@ -71,36 +77,108 @@ module _ (c : tie.In-loop Inv-loop μ-loop) where
   most : w (c .before) < wiresMost
   most = omega (arith, less, sound (c .before) .wires-most)
 
+  told-rate : getD (st (c .before) .args .t .rate) (w (c .before)) 0 ≡ t (c .before) .rate (w (c .before))
+  told-rate = entry-at wiresMost _ _ _ (as-read (c .before) .rate) (sound (c .before) .wires-most) (w (c .before)) less
+
+  told-ahead : getD (st (c .before) .args .ahead .now) (w (c .before)) 0 ≡ aheadOf (t (c .before)) (t (c .before) .channels) (w (c .before))
+  told-ahead = st (c .before) .pre .1 .1 .1 .0 .told (w (c .before)) most
+
+  rate-least : 1 ≤ getD (st (c .before) .args .t .rate) (w (c .before)) 0
+  rate-least = omega (arith, told-rate, sound (c .before) .rate-least (w (c .before)) less)
+
+  rate-most : getD (st (c .before) .args .t .rate) (w (c .before)) 0 ≤ 100
+  rate-most = omega (arith, told-rate, sound (c .before) .rate-most (w (c .before)) less)
+
+  two-frames : getD (st (c .before) .args .ahead .now) (w (c .before)) 0 ≤ 2 * fullFrame
+  two-frames = omega (arith, told-ahead, ahead-most (t (c .before)) (t (c .before) .channels) (w (c .before)))
+
+mul-hold : tie.Need-mul-hold Inv-loop μ-loop
+mul-hold c = omega (arith, most c)
+
+element-copy-out-hold : tie.Need-element-copy-out-hold Inv-loop μ-loop
+element-copy-out-hold c = most c
+
+mul-hold-2 : tie.Need-mul-hold-2 Inv-loop μ-loop
+mul-hold-2 c = omega (arith, most (c .before))
+
+element-copy-out-hold-2 : tie.Need-element-copy-out-hold-2 Inv-loop μ-loop
+element-copy-out-hold-2 c = most (c .before)
+
+mul-hold-3 : tie.Need-mul-hold-3 Inv-loop μ-loop
+mul-hold-3 c = omega (arith, most (c .before .before))
+
+array-read-hold : tie.Need-array-read-hold Inv-loop μ-loop
+array-read-hold c = most (c .before .before)
+
+hold-requires : tie.Need-hold-requires Inv-loop μ-loop
+hold-requires c κs = let i = c .before .before in (rate-least i, rate-most i, two-frames i)
+
+module _ (c : tie.After-hold Inv-loop μ-loop) where
+  abbrev turn0 : tie.In-loop Inv-loop μ-loop
+  turn0 = c .before .before .before
+
+  abbrev top0 : tie.At-loop Inv-loop μ-loop
+  top0 = turn0 .before
+
+  told-hold : c .hold .result ≡ only (bounds.carries (t top0) (w top0)) (t top0 .rate (w top0) * bounds.K (t top0) (w top0))
+  told-hold =
+      c .hold .ensures
+      ∙ hold-is (t top0) (w top0) _ _ _ (st top0 .pre .1 .1 .0 (w top0) (most turn0) .all) (told-rate turn0) (told-ahead turn0)
+
+  hold-small : c .hold .result < 2 * fullFrame + 100
+  hold-small =
+      let carries : Bool = ltb 0 (getD (st top0 .args .count .now) (w top0) 0) in
+      rw (c .hold .ensures) (hold-most carries _ _ (rate-least turn0) (rate-most turn0) (two-frames turn0))
+
 mul-shares : tie.Need-mul-shares Inv-loop μ-loop
-mul-shares c = omega (arith, most c)
+mul-shares c = omega (arith, most (turn0 c))
 
 element-copy-out-shares : tie.Need-element-copy-out-shares Inv-loop μ-loop
-element-copy-out-shares c = most c
+element-copy-out-shares c = most (turn0 c)
+
+module _ (c : tie.After-hold Inv-loop μ-loop) where
+  shares-lt : sumOf (bounds.shareOf (t (top0 c)) (bounds.known (t (top0 c)) (w (top0 c))) (w (top0 c))) (t (top0 c) .channels) < 2 ^ 63
+  shares-lt = shares-small (t (top0 c)) (full (top0 c)) (w (top0 c)) _ _ _ _ (walking (top0 c)) (less (turn0 c))
 
 shares-requires : tie.Need-shares-requires Inv-loop μ-loop
 shares-requires c κs =
-    let turn = c .before .before .before .before in
-    let top = turn .before in
-    (sound top, ((most turn, as-read top .hyper), (st top .pre .1 .1 .0 (w top) (most turn), ((as-read top .price, as-read top .times), (jitter-told (t top) (full top) (w top) _ _ _ _ (walking top) (omega (arith, less turn)), shares-small (t top) (full top) (w top) _ _ _ _ (walking top) (less turn))))))
+    let h = c .before .before .before .before in
+    let turn = turn0 h in
+    let top = top0 h in
+    (sound top, ((most turn, as-read top .hyper), (st top .pre .1 .1 .0 (w top) (most turn), ((as-read top .price, as-read top .times), (jitter-told (t top) (full top) (w top) _ _ _ _ (walking top) (omega (arith, less turn)), omega (arith, shares-lt h))))))
 
 module _ (c : tie.After-shares Inv-loop μ-loop) where
+  abbrev held : tie.After-hold Inv-loop μ-loop
+  held = c .before .before .before .before .before
+
   abbrev turn : tie.In-loop Inv-loop μ-loop
-  turn = c .before .before .before .before .before
+  turn = turn0 held
 
   abbrev top : tie.At-loop Inv-loop μ-loop
   top = turn .before
 
+  abbrev divided : ℕ
+  divided = c .shares .result / st top .args .t .hyper
+
   abbrev bytes : ℕ
-  bytes = c .shares .result / st top .args .t .hyper
+  bytes = divided + held .hold .result
+
+  bytes-fit : bytes < 2 ^ 64
+  bytes-fit = omega (arith, hold-small held, div-le-self (c .shares .result) (st top .args .t .hyper), c .shares .ensures, shares-lt held)
 
   told-backlog : bytes ≡ bounds.backlog (t top) (w top)
-  told-backlog = ap₂ (λ (x y : ℕ). x / y) (c .shares .ensures) (as-read top .hyper) ∙ sym (backlog-is (t top) (w top))
+  told-backlog =
+      ap₂ (λ (x y : ℕ). x + y) (ap₂ (λ (x y : ℕ). x / y) (c .shares .ensures) (as-read top .hyper)) (told-hold held)
+      ∙ sym (backlog-is (t top) (w top))
 
   told-room : getD (st top .args .t .room) (w top) 0 ≡ t top .room (w top)
   told-room = entry-at wiresMost _ _ _ (as-read top .room) (sound top .wires-most) (w top) (less turn)
 
 div-bytes : tie.Need-div-bytes Inv-loop μ-loop
 div-bytes c = omega (arith, as-read (top c) .hyper, sound (top c) .hyper-least)
+
+add-bytes : tie.Need-add-bytes Inv-loop μ-loop
+add-bytes c = omega (arith, bytes-fit c)
 
 mul-if1 : tie.Need-mul-if1 Inv-loop μ-loop
 mul-if1 c = omega (arith, most (turn c))
@@ -131,9 +209,6 @@ module _ (c : tie.Else1 Inv-loop μ-loop) where
   small : bytes (c .before) < 2 ^ 24
   small = omega (arith, passed, told-backlog (c .before), full top2 .room-lt (w top2))
 
-  told-rate : getD (st top2 .args .t .rate) (w top2) 0 ≡ t top2 .rate (w top2)
-  told-rate = entry-at wiresMost _ _ _ (as-read top2 .rate) (sound top2 .wires-most) (w top2) (less turn2)
-
   told-prop : getD (st top2 .args .t .prop) (w top2) 0 ≡ t top2 .prop (w top2)
   told-prop = entry-at wiresMost _ _ _ (as-read top2 .prop) (sound top2 .wires-most) (w top2) (less turn2)
 
@@ -147,18 +222,17 @@ array-read-slots : tie.Need-array-read-slots Inv-loop μ-loop
 array-read-slots c = most (turn2 c)
 
 slots-requires : tie.Need-slots-requires Inv-loop μ-loop
-slots-requires c κs =
-    let top = top2 c in (
-      omega (arith, told-rate c, sound top .rate-least (w top) (less (turn2 c))),
-      omega (arith, told-rate c, sound top .rate-most (w top) (less (turn2 c)), small c),
-    )
+slots-requires c κs = (
+  rate-least (turn2 c),
+  omega (arith, rate-most (turn2 c), small c),
+)
 
 module _ (c : tie.After-slots Inv-loop μ-loop) where
   abbrev top3 : tie.At-loop Inv-loop μ-loop
   top3 = top2 (c .before)
 
   told-delay : c .slots .result ≡ bounds.delay (t top3) (w top3)
-  told-delay = c .slots .ensures ∙ ap₂ up (told-backlog (c .before .before)) (told-rate (c .before)) ∙ sym (delay-up (t top3) (w top3))
+  told-delay = c .slots .ensures ∙ ap₂ up (told-backlog (c .before .before)) (told-rate (turn2 (c .before))) ∙ sym (delay-up (t top3) (w top3))
 
   told-spent : c .slots .result + getD (st top3 .args .t .prop) (w top3) 0 ≡ spent (t top3) (w top3)
   told-spent = omega (arith, told-delay, told-prop (c .before))
@@ -228,7 +302,7 @@ raise-requires c κs =
     )
 
 add-w : tie.Need-add-w Inv-loop μ-loop
-add-w c = search needs
+add-w c = let r = r (c .before .before .before) in omega (arith, most (turn2 (r .before)))
 
 loop-less : tie.Need-loop-less Inv-loop μ-loop
 loop-less c = search needs
@@ -266,10 +340,18 @@ walk-spec =
     Inv-loop
     μ-loop
     loop-holds
+    mul-hold
+    element-copy-out-hold
+    mul-hold-2
+    element-copy-out-hold-2
+    mul-hold-3
+    array-read-hold
+    hold-requires
     mul-shares
     element-copy-out-shares
     shares-requires
     div-bytes
+    add-bytes
     mul-if1
     array-read-if1
     unworked-requires
