@@ -209,7 +209,7 @@ module _
         blocked-most : (a : ℕ) → blocked w a ≤ only (carries t w) (t .rate w * K t w)
         blocked-most a =
             elim (bool-cases (carries t w)) [
-              | inl some ↦ rw some (mul-le-mul-left (t .rate w) (allowed .at-most w a lw))
+              | inl some ↦ rw some (omega (arith, mul-le-mul-left (t .rate w) (allowed .at-most w a lw)))
               | inr off ↦
                   (let none = idle w lw off a in
                   let free : held w a ≡ 0 = allowed .from-then-on w a lw (none .0) (none .1) in

@@ -132,28 +132,60 @@ pub held-there :
 unfolding definitions
 held-there = refl
 
--- A later wire, with a jitter that counts: H 96; four wires of rate 100; of wires 0, 1 and 2 each a channel of payload 50,
--- period 96, that uses no other wire, and one of payload 50, period 3, that goes on to wire 3. Each of those three wires is
--- held from slot 0 on, then sends the first channel's frame, then one of the second channel's in each slot, the last of
--- which is not held back; wire 3 is held when the first of them comes. It holds exactly its backlog in slot 49. A wire that
--- is first on some route and one that is not have different K.
+-- A later wire, with a jitter that counts: H 66; two wires of rate 100; channel 0 payload 1, period 33, route 0, 1; channel 1
+-- payload 63, period 66, route 0. Wire 0 is held from slot 0 on; channel 1's frame goes first and keeps channel 0's first
+-- back until its second is close behind; at wire 1, held when they come, the second goes first. The first message takes
+-- exactly its end-to-end delay. A wire that is first on some route and one that is not have different K.
 abbrev pub later : List ℕ
-later = 0x00 ∷ 0x00 ∷ 0x60 ∷ 0x08 ∷ 0x0d ∷ 0x00 ∷ 0x00 ∷ 0x01 ∷ 0x9c ∷ 0x90 ∷ 0x00 ∷ 0x00 ∷ 0x19 ∷ 0xc9 ∷ 0x00 ∷ 0x00 ∷ 0x01 ∷ 0x9c ∷ 0x90 ∷ 0x00 ∷ 0x00 ∷ 0x27 ∷ 0xd8 ∷ 0x00 ∷ 0x32 ∷ 0x00 ∷ 0x00 ∷ 0x60 ∷ 0x00 ∷ 0x00 ∷ 0x21 ∷ 0x10 ∷ 0x00 ∷ 0x06 ∷ 0x40 ∷ 0x00 ∷ 0x0c ∷ 0x00 ∷ 0x00 ∷ 0x04 ∷ 0x22 ∷ 0x08 ∷ 0x00 ∷ 0xc8 ∷ 0x00 ∷ 0x01 ∷ 0x80 ∷ 0x00 ∷ 0x00 ∷ 0x84 ∷ 0x42 ∷ 0x00 ∷ 0x19 ∷ 0x00 ∷ 0x00 ∷ 0x01 ∷ 0x80 ∷ 0x00 ∷ 0x2a ∷ 0x10 ∷ 0x01 ∷ 0x80 ∷ 0x0c ∷ 0x80 ∷ 0x00 ∷ 0x00 ∷ 0xc0 ∷ 0x00 ∷ 0x15 ∷ 0x08 ∷ 0x10 ∷ 0xc0 ∷ 0x06 ∷ 0x40 ∷ 0x00 ∷ 0x00 ∷ 0x60 ∷ 0x00 ∷ 0x0a ∷ 0x84 ∷ 0x10 ∷ 0x60 ∷ []
+later = 0x00 ∷ 0x00 ∷ 0x42 ∷ 0x04 ∷ 0x05 ∷ 0x00 ∷ 0x00 ∷ 0x01 ∷ 0x9c ∷ 0xb0 ∷ 0x00 ∷ 0x00 ∷ 0x0d ∷ 0xe0 ∷ 0x00 ∷ 0x01 ∷ 0x00 ∷ 0x00 ∷ 0x21 ∷ 0x00 ∷ 0x00 ∷ 0x34 ∷ 0x20 ∷ 0x01 ∷ 0x00 ∷ 0x1f ∷ 0x80 ∷ 0x00 ∷ 0x21 ∷ 0x00 ∷ 0x00 ∷ 0x11 ∷ 0x08 ∷ 0x00 ∷ []
 
-abbrev pub runLater : Run (viewOf later) (periodic (viewOf later)) (heldAt (viewOf later) (periodic (viewOf later)) in-turn (longest (viewOf later) 34))
-runLater = played-run (viewOf later) (periodic (viewOf later)) in-turn (longest (viewOf later) 34) in-turn-any
+abbrev pub runLater : Run (viewOf later) (periodic (viewOf later)) (heldAt (viewOf later) (periodic (viewOf later)) last-first (longest (viewOf later) 35))
+runLater = played-run (viewOf later) (periodic (viewOf later)) last-first (longest (viewOf later) 35) last-first-any
 
-pub later-accepted : judge later 47 ≡ granted (47 ∷ [])
+pub later-accepted : judge later 21 ≡ granted (21 ∷ [])
 unfolding definitions
 later-accepted = refl
 
-pub later-figures : (K (viewOf later) 0 ≡ 31) × (K (viewOf later) 3 ≡ 16) × (backlog (viewOf later) 3 ≡ 5100)
+pub later-figures : (K (viewOf later) 0 ≡ 31) × (K (viewOf later) 1 ≡ 16) × (backlog (viewOf later) 1 ≡ 1776) × (endToEnd (viewOf later) 0 ≡ 52)
 unfolding definitions
-later-figures = (refl, refl, refl)
+later-figures = (refl, refl, refl, refl)
 
-pub later-unsent : unsent runLater 3 49 ≡ backlog (viewOf later) 3
+pub later-message :
+    message (viewOf later) (periodic (viewOf later)) 0 0 ≡ record { channel = 0; born = 0; size = smallFrame } ∷ []
 unfolding definitions
-later-unsent = refl
+later-message = refl
+
+pub later-early : delivered (viewOf later) (runLater .gone) 0 0 (endToEnd (viewOf later) 0 - 1) ≡ []
+unfolding definitions
+later-early = refl
+
+pub later-there :
+    delivered (viewOf later) (runLater .gone) 0 0 (endToEnd (viewOf later) 0)
+    ≡ message (viewOf later) (periodic (viewOf later)) 0 0
+unfolding definitions
+later-there = refl
+
+-- A later wire that is full: H 96; four wires of rate 100; of wires 0, 1 and 2 each a channel of payload 50, period 96, that
+-- uses no other wire, and one of payload 50, period 3, that goes on to wire 3. Those three wires are held from slot 0 on,
+-- then send the first channel's frame, then one of the second channel's in each slot; wire 3 is held when the first of them
+-- comes, and holds exactly its backlog in slot 49.
+abbrev pub crowded : List ℕ
+crowded = 0x00 ∷ 0x00 ∷ 0x60 ∷ 0x08 ∷ 0x0d ∷ 0x00 ∷ 0x00 ∷ 0x01 ∷ 0x9c ∷ 0x90 ∷ 0x00 ∷ 0x00 ∷ 0x19 ∷ 0xc9 ∷ 0x00 ∷ 0x00 ∷ 0x01 ∷ 0x9c ∷ 0x90 ∷ 0x00 ∷ 0x00 ∷ 0x27 ∷ 0xd8 ∷ 0x00 ∷ 0x32 ∷ 0x00 ∷ 0x00 ∷ 0x60 ∷ 0x00 ∷ 0x00 ∷ 0x21 ∷ 0x10 ∷ 0x00 ∷ 0x06 ∷ 0x40 ∷ 0x00 ∷ 0x0c ∷ 0x00 ∷ 0x00 ∷ 0x04 ∷ 0x22 ∷ 0x08 ∷ 0x00 ∷ 0xc8 ∷ 0x00 ∷ 0x01 ∷ 0x80 ∷ 0x00 ∷ 0x00 ∷ 0x84 ∷ 0x42 ∷ 0x00 ∷ 0x19 ∷ 0x00 ∷ 0x00 ∷ 0x01 ∷ 0x80 ∷ 0x00 ∷ 0x2a ∷ 0x10 ∷ 0x01 ∷ 0x80 ∷ 0x0c ∷ 0x80 ∷ 0x00 ∷ 0x00 ∷ 0xc0 ∷ 0x00 ∷ 0x15 ∷ 0x08 ∷ 0x10 ∷ 0xc0 ∷ 0x06 ∷ 0x40 ∷ 0x00 ∷ 0x00 ∷ 0x60 ∷ 0x00 ∷ 0x0a ∷ 0x84 ∷ 0x10 ∷ 0x60 ∷ []
+
+abbrev pub runCrowded : Run (viewOf crowded) (periodic (viewOf crowded)) (heldAt (viewOf crowded) (periodic (viewOf crowded)) in-turn (longest (viewOf crowded) 34))
+runCrowded = played-run (viewOf crowded) (periodic (viewOf crowded)) in-turn (longest (viewOf crowded) 34) in-turn-any
+
+pub crowded-accepted : judge crowded 47 ≡ granted (47 ∷ [])
+unfolding definitions
+crowded-accepted = refl
+
+pub crowded-figures : backlog (viewOf crowded) 3 ≡ 5100
+unfolding definitions
+crowded-figures = refl
+
+pub crowded-unsent : unsent runCrowded 3 49 ≡ backlog (viewOf crowded) 3
+unfolding definitions
+crowded-unsent = refl
 
 -- Case A where nobody holds: the message takes the slots of its bytes, and the propagation.
 abbrev pub runA : Run (viewOf caseA) (periodic (viewOf caseA)) nobody
