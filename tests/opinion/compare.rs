@@ -397,7 +397,7 @@ impl<'a> Comparison<'a> {
         println!("compared with the second opinion: {}", self.face.name());
         println!("tables {}, judgements {}", self.tables, self.judgements);
         println!(
-            "accepted {}, of these with a jitter above 0: {}, with a later wire: {}, with an unused one: {}, longest: {}",
+            "accepted {}, of these with a jitter above 0: {}, a later wire: {}, an unused one: {}, longest: {}",
             self.accepted, self.with_jitter, self.with_later, self.with_unused, self.longest
         );
         println!("sheets asked {}, prices asked {}", self.asked, self.prices);

@@ -255,12 +255,11 @@ impl<'a> Drive<'a> {
         let several = |r: &&machine::Release| machine::frames(table.channels[r.channel].framing, r.payload).len() > 1;
         self.of_frames += attack.releases.iter().filter(several).count() as u64;
         if exceeds(&observed, figures) {
+            let Attack { name, releases, cabins, .. } = attack;
             return Err(format!(
-                "a figure is exceeded\ntable {}\nadversary {}\nreleases {:?}\ncabins {:?}\nfigures {figures:?}\nseen {observed:?}",
-                hex::show(bytes),
-                attack.name,
-                attack.releases,
-                attack.cabins
+                "a figure is exceeded\ntable {}\nadversary {name}\nreleases {releases:?}\ncabins {cabins:?}\n\
+                 figures {figures:?}\nseen {observed:?}",
+                hex::show(bytes)
             ));
         }
         most.raise(&observed);

@@ -355,9 +355,9 @@ pub const EIGHT_HOPS: Shape = Shape { wires: (8, 10), channels: (2, 6), hops: (8
 const FEEDING_RATE: u64 = 100;
 const FEEDING_HOLD: u64 = (2 * FULL).div_ceil(FEEDING_RATE);
 
-/// Wires that feed a later one, each with messages of one price and period.
+/// The channel of a wire that feeds a later one.
+#[derive(Clone, Copy)]
 struct Feeding {
-    wires: u64,
     price: u64,
     period: u64,
 }
@@ -368,9 +368,10 @@ pub fn meeting(rng: &mut Rng) -> Draft {
     let hyperperiod = Hyperperiod::of(rng.pick(&[240, 360, 840, 1_584, 2_520]));
     let fits = |d: &&u64| (FEEDING_HOLD + 2..100).contains(*d);
     let periods: Vec<u64> = hyperperiod.divisors.iter().filter(fits).copied().collect();
-    let feeding = Feeding { wires: rng.range(1, 4), price: SMALL_COST, period: rng.pick(&periods) };
+    let feeding: Vec<Feeding> =
+        (0..rng.range(1, 4)).map(|_| Feeding { price: SMALL_COST, period: rng.pick(&periods) }).collect();
     let code = rng.below(3);
-    met(rng, hyperperiod.slots, feeding, code)
+    met(rng, hyperperiod.slots, &feeding, code)
 }
 
 /// The same with a later wire that is full of load: its backlog can be reached exactly as well.
@@ -384,16 +385,16 @@ pub fn meeting_full(rng: &mut Rng) -> Draft {
         1 => rng.pick(&[(4, 90, 36), (4, 95, 38), (5, 88, 44), (5, 94, 47), (6, 90, 54), (6, 95, 57)]),
         _ => {
             let wires = rng.range(2, 5);
-            (wires, FEEDING_RATE, wires)
+            (wires as usize, FEEDING_RATE, wires)
         }
     };
     let hyperperiod = period * rng.range(1, 6);
-    met(rng, hyperperiod, Feeding { wires, price, period }, code)
+    met(rng, hyperperiod, &vec![Feeding { price, period }; wires], code)
 }
 
-/// The first wires, then the later one of that rate code on which they meet, then further ones.
-fn met(rng: &mut Rng, hyperperiod: u64, feeding: Feeding, code: u64) -> Draft {
-    let later = feeding.wires;
+/// The feeding wires, then the later one of that rate code on which they meet, then further ones.
+fn met(rng: &mut Rng, hyperperiod: u64, feeding: &[Feeding], code: u64) -> Draft {
+    let later = feeding.len() as u64;
     let further = later + 1..later + 1 + rng.range(0, 6);
     let mut draft = Draft {
         hyperperiod,
@@ -403,11 +404,11 @@ fn met(rng: &mut Rng, hyperperiod: u64, feeding: Feeding, code: u64) -> Draft {
         channels: Vec::new(),
     };
     draft.wires[later as usize].code = code;
-    for first in 0..later {
+    for (first, feeding) in (0..).zip(feeding) {
         draft.wires[first as usize].code = 2;
         let route = [first, later].into_iter().chain(further.clone().filter(|_| rng.chance(1, 2))).collect();
         draft.channels.push(plain_channel(feeding.price - PLAIN_OVERHEAD, feeding.period, route));
-        for payload in held_back(rng, &feeding) {
+        for payload in held_back(rng, feeding) {
             draft.channels.push(plain_channel(payload, hyperperiod, vec![first]));
         }
     }
