@@ -1,6 +1,7 @@
-//! The baseline of the benchmark: a judge of the same work as one would write it for speed. Numbers
-//! have 64 bits, each field is read once by shifts, nothing is put on the heap. It stands behind the
-//! same interface as the library, and is compared with the second opinion like it.
+//! The baseline of the benchmark: a judge of the same work, document 01 with requests, as
+//! one would write it for speed. Numbers have 64 bits, each field is read once by shifts, nothing is
+//! put on the heap. It stands behind the same interface as the library, and is compared with the
+//! second opinion like it.
 
 const LEAST_SHEET: usize = 2;
 const DONE: u8 = 255;
@@ -53,18 +54,18 @@ fn last_word(rest: &[u8]) -> u64 {
 struct Writer<'a> {
     bytes: &'a mut [u8],
     at: usize,
-    held: u64,
+    kept: u64,
     bits: u32,
 }
 
 impl Writer<'_> {
     #[inline(always)]
     fn put(&mut self, width: u32, value: u64) {
-        self.held = self.held << width | value;
+        self.kept = self.kept << width | value;
         self.bits += width;
         while self.bits >= 8 {
             self.bits -= 8;
-            self.bytes[self.at] = (self.held >> self.bits) as u8;
+            self.bytes[self.at] = (self.kept >> self.bits) as u8;
             self.at += 1;
         }
     }
@@ -79,11 +80,12 @@ impl Writer<'_> {
 // ---- the price ----
 
 const FRAMINGS: [(u64, u64, u64); 2] = [(1_492, 50, 38), (1_464, 78, 10)];
+const FULL_FRAME: u64 = 1_542;
 
 #[inline(always)]
 fn price_of(framing: usize, payload: u64) -> u64 {
     let (data, overhead, least) = FRAMINGS[framing];
-    let full = payload / data * 1_542;
+    let full = payload / data * FULL_FRAME;
     let rest = payload % data;
     if rest == 0 {
         full
@@ -106,11 +108,30 @@ pub fn price(framing: u64, payload: u64) -> u64 {
 
 // ---- the table ----
 
+const RATES: [u64; 3] = [1, 10, 100];
+
+/// What a wire held as long as it may be does not send, in bytes, by rate code.
+const fn held_bytes(frames: u64) -> [u64; 3] {
+    let mut bytes = [0; 3];
+    let mut code = 0;
+    while code < 3 {
+        bytes[code] = (frames * FULL_FRAME).next_multiple_of(RATES[code]);
+        code += 1;
+    }
+    bytes
+}
+
+const HELD_LATER: [u64; 3] = held_bytes(1);
+const HELD_FIRST: [u64; 3] = held_bytes(2);
+
 struct Table {
     hyperperiod: u64,
     wires: usize,
     channels: usize,
+    code: [u8; 64],
     rate: [u64; 64],
+    /// Whether a wire is first on some route.
+    first: [bool; 64],
     propagation: [u64; 64],
     room: [u64; 64],
     load: [u64; 64],
@@ -132,7 +153,9 @@ impl Table {
             hyperperiod: 0,
             wires: 0,
             channels: 0,
+            code: [0; 64],
             rate: [0; 64],
+            first: [false; 64],
             propagation: [0; 64],
             room: [0; 64],
             load: [0; 64],
@@ -194,7 +217,8 @@ impl Table {
         if code == 3 {
             return Err(refusal(5, wire));
         }
-        self.rate[wire] = [1, 10, 100][code as usize];
+        self.code[wire] = code as u8;
+        self.rate[wire] = RATES[code as usize];
         Ok(())
     }
 
@@ -242,6 +266,7 @@ impl Table {
             self.route[channel][hop] = wire as u8;
             self.load[wire] += self.share[channel];
         }
+        self.first[self.route[channel][0] as usize] = true;
         Ok(())
     }
 
@@ -254,6 +279,12 @@ impl Table {
             }
         }
         Ok(())
+    }
+
+    #[inline(always)]
+    fn held(&self, wire: usize) -> u64 {
+        let bytes = if self.first[wire] { &HELD_FIRST } else { &HELD_LATER };
+        bytes[self.code[wire] as usize]
     }
 
     /// Wires in ascending number; stopping at the first over its room keeps every delay to 24 bits.
@@ -276,7 +307,8 @@ impl Table {
                     count += 1;
                 }
             }
-            let backlog = prices + late / self.hyperperiod;
+            let held = if count == 0 { 0 } else { self.held(wire) };
+            let backlog = prices + late / self.hyperperiod + held;
             if backlog > self.room[wire] {
                 return Err(refusal(13, wire));
             }
@@ -310,7 +342,7 @@ impl Table {
             return Err(refusal(15, 0));
         }
         let (bytes, tail) = sheet.split_at_mut(length);
-        let mut writer = Writer { bytes, at: 0, held: 0, bits: 0 };
+        let mut writer = Writer { bytes, at: 0, kept: 0, bits: 0 };
         writer.put(7, self.wires as u64);
         writer.put(8, self.channels as u64);
         for wire in 0..self.wires {

@@ -1,9 +1,9 @@
 //! Faces broken on purpose, one fault each: the comparison has to see every one of them.
 
 use crate::ffi::{self, Face};
-use crate::opinion::{self, Answer, Refusal, Table};
+use crate::opinion::{self, Answer, Figures, Refusal, Rules, Table, FULL_FRAME, RULES};
 
-pub const FAULTS: [&str; 22] = [
+pub const FAULTS: [&str; 27] = [
     "the length of an accepted sheet is one more",
     "refusal 14 is called 13",
     "every refusal has place 0",
@@ -26,6 +26,11 @@ pub const FAULTS: [&str; 22] = [
     "jitter grows by the delay minus 2",
     "load is a sum of hundredths, each rounded up",
     "no channels are taken for nothing late",
+    "a first wire is held as a later one",
+    "a later wire is held as a first one",
+    "a hold is rounded down to whole slots",
+    "the hold is added to the delay and not to the backlog",
+    "an unused wire is held",
 ];
 
 pub struct Broken {
@@ -66,14 +71,19 @@ impl Broken {
         let table = opinion::decode(bytes).ok()?;
         opinion::test_loads(&table).ok()?;
         let wrong = match self.fault {
-            8 => opinion::bounds(&table, |_| 0),
+            8 => opinion::bounds(&table, &Rules { jitter_added: |_| 0, ..RULES }),
             9 => shares_rounded(&table, |numerator, h| numerator.div_ceil(h)),
             10 => shares_rounded(&table, |numerator, h| numerator / h),
-            11 => opinion::bounds(&harder(&table, 0, 1), opinion::jitter_added),
-            12 => opinion::bounds(&harder(&table, 1, 0), opinion::jitter_added),
-            13 => full_refused(&table).and_then(|()| opinion::bounds(&table, opinion::jitter_added)),
-            20 => opinion::bounds(&table, |delay| delay.saturating_sub(2)),
-            21 => hundredths_refused(&table).and_then(|()| opinion::bounds(&table, opinion::jitter_added)),
+            11 => opinion::bounds(&harder(&table, 0, 1), &RULES),
+            12 => opinion::bounds(&harder(&table, 1, 0), &RULES),
+            13 => full_refused(&table).and_then(|()| opinion::bounds(&table, &RULES)),
+            20 => opinion::bounds(&table, &Rules { jitter_added: |delay| delay.saturating_sub(2), ..RULES }),
+            21 => hundredths_refused(&table).and_then(|()| opinion::bounds(&table, &RULES)),
+            23 => opinion::bounds(&table, &Rules { hold: |t, w| frames_held(t, w, [0, 1, 1]), ..RULES }),
+            24 => opinion::bounds(&table, &Rules { hold: |t, w| frames_held(t, w, [0, 2, 2]), ..RULES }),
+            25 => opinion::bounds(&table, &Rules { hold: rounded_down, ..RULES }),
+            26 => only_delay_held(&table),
+            27 => opinion::bounds(&table, &Rules { hold: |t, w| frames_held(t, w, [1, 1, 2]), ..RULES }),
             _ => return None,
         };
         let table = if self.fault == 11 { harder(&table, 0, 1) } else { table };
@@ -113,12 +123,30 @@ fn hundredths_refused(table: &Table) -> Answer<()> {
     Ok(())
 }
 
+/// A hold of other full frames: for an unused wire, a later one, and one that is first on some route.
+fn frames_held(table: &Table, wire: usize, frames: [u128; 3]) -> u128 {
+    opinion::hold_of(frames[opinion::cabin_frames(table, wire) as usize], &table.wires[wire])
+}
+
+fn rounded_down(table: &Table, wire: usize) -> u128 {
+    opinion::cabin_frames(table, wire) * FULL_FRAME / table.wires[wire].rate
+}
+
+fn only_delay_held(table: &Table) -> Answer<Figures> {
+    let held = |wire: usize| table.wires[wire].rate * opinion::hold(table, wire);
+    let mut roomier = table.clone();
+    roomier.wires.iter_mut().enumerate().for_each(|(number, wire)| wire.room += held(number));
+    let mut figures = opinion::bounds(&roomier, &RULES)?;
+    figures.backlogs.iter_mut().enumerate().for_each(|(number, backlog)| *backlog -= held(number));
+    Ok(figures)
+}
+
 /// The bounds with one rounding for each channel in the place of one at the end.
-fn shares_rounded(table: &Table, round: fn(u128, u128) -> u128) -> Answer<opinion::Figures> {
-    let mut figures = opinion::bounds(table, opinion::jitter_added)?;
+fn shares_rounded(table: &Table, round: fn(u128, u128) -> u128) -> Answer<Figures> {
+    let mut figures = opinion::bounds(table, &RULES)?;
     let h = table.hyperperiod;
     for (number, wire) in table.wires.iter().enumerate() {
-        let mut sum = 0;
+        let mut sum = wire.rate * opinion::hold(table, number);
         for (channel, jitters) in table.channels.iter().zip(&figures.jitters) {
             if let Some(hop) = channel.route.iter().position(|&w| w == number) {
                 let c = channel.price();

@@ -12,6 +12,8 @@ use std::hash::{DefaultHasher, Hash, Hasher};
 pub const TABLES: u64 = 300_000;
 const ACCEPTED: u64 = 30_000;
 const WITH_JITTER: u64 = 5_000;
+const WITH_LATER: u64 = 5_000;
+const WITH_UNUSED: u64 = 5_000;
 const EACH_NUMBER: u64 = 100;
 
 const GUARD: usize = 16;
@@ -29,6 +31,8 @@ pub struct Comparison<'a> {
     judgements: u64,
     accepted: u64,
     with_jitter: u64,
+    with_later: u64,
+    with_unused: u64,
     longest: u64,
     asked: u64,
     prices: u64,
@@ -51,6 +55,8 @@ impl<'a> Comparison<'a> {
             judgements: 0,
             accepted: 0,
             with_jitter: 0,
+            with_later: 0,
+            with_unused: 0,
             longest: 0,
             asked: 0,
             prices: 0,
@@ -184,9 +190,7 @@ impl<'a> Comparison<'a> {
         match verdict {
             Ok(accepted) => {
                 self.by_table[0] += 1;
-                self.accepted += 1;
-                self.with_jitter += accepted.figures.has_jitter() as u64;
-                self.longest += (table.len() == 2_165) as u64;
+                self.note(table, &accepted);
                 self.other_lengths(table, accepted.sheet.len())?;
                 self.ask_back(table, &accepted)
             }
@@ -195,6 +199,17 @@ impl<'a> Comparison<'a> {
                 self.refused_buffer(table, lent)
             }
         }
+    }
+
+    fn note(&mut self, table: &[u8], accepted: &opinion::Accepted) {
+        let any = |is: fn(&opinion::Table, usize) -> bool| {
+            (0..accepted.table.wires.len()).any(|wire| is(&accepted.table, wire)) as u64
+        };
+        self.accepted += 1;
+        self.with_jitter += accepted.figures.has_jitter() as u64;
+        self.with_later += any(opinion::is_later);
+        self.with_unused += any(opinion::is_unused);
+        self.longest += (table.len() == 2_165) as u64;
     }
 
     fn lent(&mut self) -> usize {
@@ -382,8 +397,8 @@ impl<'a> Comparison<'a> {
         println!("compared with the second opinion: {}", self.face.name());
         println!("tables {}, judgements {}", self.tables, self.judgements);
         println!(
-            "accepted {}, of these with a jitter above 0: {}, longest: {}",
-            self.accepted, self.with_jitter, self.longest
+            "accepted {}, of these with a jitter above 0: {}, a later wire: {}, an unused one: {}, longest: {}",
+            self.accepted, self.with_jitter, self.with_later, self.with_unused, self.longest
         );
         println!("sheets asked {}, prices asked {}", self.asked, self.prices);
         println!("refusal  tables  all questions");
@@ -403,6 +418,8 @@ impl<'a> Comparison<'a> {
         demand("tables".to_string(), self.tables, TABLES);
         demand("accepted".to_string(), self.accepted, ACCEPTED);
         demand("accepted with a jitter above 0".to_string(), self.with_jitter, WITH_JITTER);
+        demand("accepted with a later wire".to_string(), self.with_later, WITH_LATER);
+        demand("accepted with an unused wire".to_string(), self.with_unused, WITH_UNUSED);
         for number in 1..=20 {
             demand(format!("refusal {number}"), self.by_number[number], EACH_NUMBER);
         }

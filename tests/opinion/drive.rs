@@ -1,12 +1,12 @@
 //! The slot machine driven by the adversaries on accepted tables with nothing to spare: no figure is
 //! exceeded, how close they came, and that they exceed figures that are wrong on purpose.
 
-use crate::adversary::{self, Attack, Target};
+use crate::adversary::{self, Attack, Cabins, Target};
 use crate::ffi::Face;
 use crate::generate::{self, Draft, Hyperperiod};
 use crate::hex;
 use crate::machine::{self, Observed};
-use crate::opinion::{self, Figures, Table};
+use crate::opinion::{self, is_later, is_unused, Figures, Rules, Table, RULES};
 use crate::rng::Rng;
 
 pub const TABLES: u64 = 400;
@@ -57,23 +57,42 @@ struct Wrong {
     broken: u64,
 }
 
+fn by(table: &Table, rules: &Rules) -> Figures {
+    opinion::bounds(table, rules).expect("no figure is larger")
+}
+
 fn no_jitter(table: &Table) -> Figures {
-    opinion::bounds(table, |_| 0).expect("smaller figures fit")
+    by(table, &Rules { jitter_added: |_| 0, ..RULES })
 }
 
 fn delay_minus_two(table: &Table) -> Figures {
-    opinion::bounds(table, |delay| delay.saturating_sub(2)).expect("smaller figures fit")
+    by(table, &Rules { jitter_added: |delay| delay.saturating_sub(2), ..RULES })
+}
+
+fn hold_minus_one(table: &Table) -> Figures {
+    by(table, &Rules { hold: |table, wire| opinion::hold(table, wire).saturating_sub(1), ..RULES })
+}
+
+/// The same, only on wires that are first on no route.
+fn later_hold_minus_one(table: &Table) -> Figures {
+    let hold = |table: &Table, wire| opinion::hold(table, wire) - is_later(table, wire) as u128;
+    by(table, &Rules { hold, ..RULES })
+}
+
+fn first_held_as_later(table: &Table) -> Figures {
+    let hold = |table: &Table, wire| opinion::hold_of(opinion::cabin_frames(table, wire).min(1), &table.wires[wire]);
+    by(table, &Rules { hold, ..RULES })
 }
 
 fn backlog_minus_one(table: &Table) -> Figures {
-    let mut figures = opinion::bounds(table, opinion::jitter_added).expect("an accepted table");
+    let mut figures = by(table, &RULES);
     figures.backlogs.iter_mut().for_each(|backlog| *backlog = backlog.saturating_sub(1));
     figures
 }
 
 /// The same, only where a jitter is above 0: the backlogs that first wires reach do not count.
 fn backlog_minus_one_later(table: &Table) -> Figures {
-    let mut figures = opinion::bounds(table, opinion::jitter_added).expect("an accepted table");
+    let mut figures = by(table, &RULES);
     for wire in 0..table.wires.len() {
         if jitter_at(table, &figures, wire) > 0 {
             figures.backlogs[wire] -= 1;
@@ -97,13 +116,15 @@ pub struct Drive<'a> {
     messages: u64,
     of_frames: u64,
     eight_hops: u64,
+    with_later: u64,
+    with_unused: u64,
     rates: [u64; 3],
     first: Closeness,
     later: Closeness,
     delays: Closeness,
     one_hop: Closeness,
     more_hops: Closeness,
-    wrong: [Wrong; 4],
+    wrong: [Wrong; 7],
 }
 
 impl<'a> Drive<'a> {
@@ -120,6 +141,8 @@ impl<'a> Drive<'a> {
             messages: 0,
             of_frames: 0,
             eight_hops: 0,
+            with_later: 0,
+            with_unused: 0,
             rates: [0; 3],
             first: Closeness::of("backlog, all jitters 0"),
             later: Closeness::of("backlog, with a jitter above 0"),
@@ -131,15 +154,20 @@ impl<'a> Drive<'a> {
                 wrong("jitter of delay - 2 per hop", delay_minus_two),
                 wrong("backlog - 1", backlog_minus_one),
                 wrong("backlog - 1 only with jitter", backlog_minus_one_later),
+                wrong("a hold of K - 1", hold_minus_one),
+                wrong("a hold of K - 1 only on later wires", later_hold_minus_one),
+                wrong("first wires held as later ones", first_held_as_later),
             ],
         }
     }
 
     pub fn run(&mut self, tables: u64) -> Outcome {
         while self.tables < tables {
-            let mut draft = match self.tables % 4 {
-                0 | 1 => generate::meeting(&mut self.rng),
-                2 => generate::sound(&mut self.rng, &generate::FOR_MACHINE, &self.pool),
+            let mut draft = match self.tables % 6 {
+                0 => generate::meeting(&mut self.rng),
+                1 | 2 => generate::meeting_full(&mut self.rng),
+                3 => generate::full(&mut self.rng),
+                4 => generate::sound(&mut self.rng, &generate::FOR_MACHINE, &self.pool),
                 _ => generate::sound(&mut self.rng, &generate::EIGHT_HOPS, &self.pool),
             };
             if let Some(figures) = draft.tighten() {
@@ -156,16 +184,19 @@ impl<'a> Drive<'a> {
         let table = accepted.table;
         self.tables += 1;
         self.eight_hops += table.channels.iter().any(|channel| channel.route.len() == 8) as u64;
+        self.with_later += (0..table.wires.len()).any(|wire| is_later(&table, wire)) as u64;
+        self.with_unused += (0..table.wires.len()).any(|wire| is_unused(&table, wire)) as u64;
         for wire in &table.wires {
             self.rates[[1, 10, 100].iter().position(|&rate| rate == wire.rate).unwrap()] += 1;
         }
         let mut observed = Observed::nothing(&table);
-        for _ in 0..2 {
-            let attack = adversary::all_at_once(&mut self.rng, &table);
+        for cabins in [Cabins::Always, Cabins::Always, Cabins::Nobody] {
+            let attack = adversary::all_at_once(&mut self.rng, &table, cabins);
             self.attack(&bytes, &table, figures, attack, &mut observed)?;
         }
         for _ in 0..3 {
-            let attack = adversary::random(&mut self.rng, &table);
+            let cabins = Cabins::drawn(&mut self.rng);
+            let attack = adversary::random(&mut self.rng, &table, cabins);
             self.attack(&bytes, &table, figures, attack, &mut observed)?;
         }
         for target in targets(&table, figures) {
@@ -224,11 +255,11 @@ impl<'a> Drive<'a> {
         let several = |r: &&machine::Release| machine::frames(table.channels[r.channel].framing, r.payload).len() > 1;
         self.of_frames += attack.releases.iter().filter(several).count() as u64;
         if exceeds(&observed, figures) {
+            let Attack { name, releases, cabins, .. } = attack;
             return Err(format!(
-                "a figure is exceeded\ntable {}\nadversary {}\nreleases {:?}\nfigures {figures:?}\nseen {observed:?}",
-                hex::show(bytes),
-                attack.name,
-                attack.releases
+                "a figure is exceeded\ntable {}\nadversary {name}\nreleases {releases:?}\ncabins {cabins:?}\n\
+                 figures {figures:?}\nseen {observed:?}",
+                hex::show(bytes)
             ));
         }
         most.raise(&observed);
@@ -238,7 +269,7 @@ impl<'a> Drive<'a> {
     fn note(&mut self, table: &Table, figures: &Figures, observed: &Observed) {
         for wire in 0..table.wires.len() {
             let kind = if jitter_at(table, figures, wire) > 0 { &mut self.later } else { &mut self.first };
-            kind.note(observed.held[wire], figures.backlogs[wire]);
+            kind.note(observed.unsent[wire], figures.backlogs[wire]);
             self.delays.note(observed.delays[wire], figures.delays[wire]);
         }
         for (number, channel) in table.channels.iter().enumerate() {
@@ -255,6 +286,7 @@ impl<'a> Drive<'a> {
             "slot machine: {} tables with nothing to spare ({} with a route of 8 wires; wires of rate 1, 10, 100: {:?})",
             self.tables, self.eight_hops, self.rates
         );
+        println!("tables with a later wire {}, with an unused one {}", self.with_later, self.with_unused);
         println!("runs {}, messages {}, of several frames {}", self.runs, self.messages, self.of_frames);
         for closeness in [&self.first, &self.later, &self.delays, &self.one_hop, &self.more_hops] {
             closeness.print();
@@ -271,13 +303,16 @@ impl<'a> Drive<'a> {
         if self.of_frames == 0 || self.eight_hops == 0 || self.rates.contains(&0) {
             all.push("messages of several frames, eight hops and three rates".to_string());
         }
+        if self.with_later < EACH_WRONG || self.with_unused < EACH_WRONG {
+            all.push("tables with a later wire, and with an unused one".to_string());
+        }
         all
     }
 }
 
 fn exceeds(observed: &Observed, figures: &Figures) -> bool {
     let over = |seen: &[u64], figures: &[u128]| seen.iter().zip(figures).any(|(&seen, &figure)| seen as u128 > figure);
-    over(&observed.held, &figures.backlogs)
+    over(&observed.unsent, &figures.backlogs)
         || over(&observed.delays, &figures.delays)
         || over(&observed.ends, &figures.ends)
 }

@@ -108,7 +108,7 @@ impl Draft {
         open.wires.iter_mut().for_each(|wire| wire.room = MOST_ROOM);
         let table = open.table()?;
         opinion::test_loads(&table).ok()?;
-        opinion::bounds(&table, opinion::jitter_added).ok()
+        opinion::bounds(&table, &opinion::RULES).ok()
     }
 
     /// Sets every room and deadline exactly to its figure. None where a figure fits no field.
@@ -351,31 +351,65 @@ pub const FOR_MACHINE: Shape = Shape {
 /// Long routes: every channel passes eight wires.
 pub const EIGHT_HOPS: Shape = Shape { wires: (8, 10), channels: (2, 6), hops: (8, 8), ..FOR_MACHINE };
 
-/// Tables in which a figure with jitter can be reached exactly. Each of the first wires, of rate
-/// 100, holds a smallest frame back for exactly one period, a few bytes of it going in the slot in
-/// which the next one comes and goes whole; all of them then meet on one later wire.
+/// The rate of the wires that feed a later one, and for how many slots the cabins may hold them.
+const FEEDING_RATE: u64 = 100;
+const FEEDING_HOLD: u64 = (2 * FULL).div_ceil(FEEDING_RATE);
+
+/// The channel of a wire that feeds a later one.
+#[derive(Clone, Copy)]
+struct Feeding {
+    price: u64,
+    period: u64,
+}
+
+/// Tables in which a delay with jitter can be reached exactly: frames held back for just one period
+/// meet on a later wire.
 pub fn meeting(rng: &mut Rng) -> Draft {
-    let hyperperiod = Hyperperiod::of(rng.pick(&[120, 240, 360, 840, 2_520]));
-    let count = rng.range(1, 4);
-    let further = rng.range(0, 6);
+    let hyperperiod = Hyperperiod::of(rng.pick(&[240, 360, 840, 1_584, 2_520]));
+    let fits = |d: &&u64| (FEEDING_HOLD + 2..100).contains(*d);
+    let periods: Vec<u64> = hyperperiod.divisors.iter().filter(fits).copied().collect();
+    let feeding: Vec<Feeding> =
+        (0..rng.range(1, 4)).map(|_| Feeding { price: SMALL_COST, period: rng.pick(&periods) }).collect();
+    let code = rng.below(3);
+    met(rng, hyperperiod.slots, &feeding, code)
+}
+
+/// The same with a later wire that is full of load: its backlog can be reached exactly as well.
+pub fn meeting_full(rng: &mut Rng) -> Draft {
+    let code = rng.below(3);
+    let (wires, price, period) = match code {
+        0 => {
+            let price = rng.range(SMALL_COST, FEEDING_RATE - 1);
+            (1, price, price)
+        }
+        1 => rng.pick(&[(4, 90, 36), (4, 95, 38), (5, 88, 44), (5, 94, 47), (6, 90, 54), (6, 95, 57)]),
+        _ => {
+            let wires = rng.range(2, 5);
+            (wires as usize, FEEDING_RATE, wires)
+        }
+    };
+    let hyperperiod = period * rng.range(1, 6);
+    met(rng, hyperperiod, &vec![Feeding { price, period }; wires], code)
+}
+
+/// The feeding wires, then the later one of that rate code on which they meet, then further ones.
+fn met(rng: &mut Rng, hyperperiod: u64, feeding: &[Feeding], code: u64) -> Draft {
+    let later = feeding.len() as u64;
+    let further = later + 1..later + 1 + rng.range(0, 6);
     let mut draft = Draft {
-        hyperperiod: hyperperiod.slots,
+        hyperperiod,
         wire_count: 0,
         channel_count: 0,
-        wires: (0..count + 1 + further).map(|_| short_wire(rng)).collect(),
+        wires: (0..further.end).map(|_| short_wire(rng)).collect(),
         channels: Vec::new(),
     };
-    for first in 0..count {
-        let fits = |d: &&u64| (1 + count..=40).contains(*d) && 4 * **d <= hyperperiod.slots;
-        let periods: Vec<u64> = hyperperiod.divisors.iter().filter(fits).copied().collect();
-        let period = rng.pick(&periods);
+    draft.wires[later as usize].code = code;
+    for (first, feeding) in (0..).zip(feeding) {
         draft.wires[first as usize].code = 2;
-        let mut route = vec![first, count];
-        route.extend((count + 1..count + 1 + further).filter(|_| rng.chance(1, 2)));
-        draft.channels.push(plain_channel(1, period, route));
-        let held_back = 100 * period + rng.range(1, 100 - SMALL_COST) - SMALL_COST;
-        for payload in fillers(rng, held_back) {
-            draft.channels.push(plain_channel(payload, hyperperiod.slots, vec![first]));
+        let route = [first, later].into_iter().chain(further.clone().filter(|_| rng.chance(1, 2))).collect();
+        draft.channels.push(plain_channel(feeding.price - PLAIN_OVERHEAD, feeding.period, route));
+        for payload in held_back(rng, feeding) {
+            draft.channels.push(plain_channel(payload, hyperperiod, vec![first]));
         }
     }
     while let Some(wire) = draft.overfull() {
@@ -384,6 +418,16 @@ pub fn meeting(rng: &mut Rng) -> Draft {
     rng.shuffle(&mut draft.channels);
     draft.count();
     draft
+}
+
+/// Payloads that hold a frame back, the cabins' hold counted, until the slot in which the next one
+/// comes: a few bytes of it go then, and the next one whole. None where that slot has no room for both.
+fn held_back(rng: &mut Rng, feeding: &Feeding) -> Vec<u64> {
+    if feeding.price >= FEEDING_RATE {
+        return Vec::new();
+    }
+    let with_the_next = rng.range(1, FEEDING_RATE - feeding.price);
+    fillers(rng, FEEDING_RATE * (feeding.period - FEEDING_HOLD) + with_the_next - feeding.price)
 }
 
 fn short_wire(rng: &mut Rng) -> DraftWire {

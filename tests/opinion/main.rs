@@ -30,7 +30,7 @@ opinion machine [--seed S] [--tables N]
                          the slot machine driven by adversaries on tables with nothing to spare
 opinion bench [--seed S] [--repetitions N]
                          times of the face and of the baseline, and their ratio at three sizes
-opinion scripted         four small runs of the slot machine, slot by slot
+opinion scripted         five small runs of the slot machine, slot by slot
 opinion faults           the faults that --break knows, one to a line
 Exit status: 0 agreed; 1 a disagreement or a figure exceeded, printed; 2 bad usage; 4 too few of a
 kind were compared, or wrong figures were left standing.
@@ -145,7 +145,7 @@ fn run_machine(words: &[&str]) {
     let face = ffi::built_for();
     let mut drive = drive::Drive::new(face.as_ref(), options.seed());
     let outcome =
-        scripted::check_outside_run().and_then(|()| drive.run(options.number("--tables").unwrap_or(drive::TABLES)));
+        scripted::check_exact_runs().and_then(|()| drive.run(options.number("--tables").unwrap_or(drive::TABLES)));
     println!("seed {}", options.seed());
     drive.print();
     if let Err(why) = outcome {

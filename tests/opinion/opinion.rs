@@ -1,4 +1,4 @@
-//! The second opinion: the rules of document 01 and of request Q-2, written from those documents alone.
+//! The second opinion: the rules of document 01 and of requests, written from those documents alone.
 //!
 //! It goes about the work by other means than the proved code: the bits are spread out into a list,
 //! a table is decoded into structs, and all arithmetic has 128 bits.
@@ -252,18 +252,54 @@ pub fn jitter_added(delay: u128) -> u128 {
     delay - 1
 }
 
+/// Full frames of the cabins that a wire may have to let pass.
+pub fn cabin_frames(table: &Table, wire: usize) -> u128 {
+    if table.channels.iter().any(|channel| channel.route[0] == wire) {
+        2
+    } else if table.channels.iter().any(|channel| channel.route.contains(&wire)) {
+        1
+    } else {
+        0
+    }
+}
+
+/// The slots that a wire needs to let full frames of the cabins pass.
+pub fn hold_of(frames: u128, wire: &Wire) -> u128 {
+    (frames * FULL_FRAME).div_ceil(wire.rate)
+}
+
+/// K: the slots in a row for which the cabins may hold a wire; 0 where no route uses it.
+pub fn hold(table: &Table, wire: usize) -> u128 {
+    hold_of(cabin_frames(table, wire), &table.wires[wire])
+}
+
+/// Whether a wire carries channels and is first on no route.
+pub fn is_later(table: &Table, wire: usize) -> bool {
+    cabin_frames(table, wire) == 1
+}
+
+pub fn is_unused(table: &Table, wire: usize) -> bool {
+    cabin_frames(table, wire) == 0
+}
+
+/// The two rules that the figures are worked out by. Faults and the slot machine's teeth hand in wrong ones.
+pub struct Rules {
+    pub jitter_added: fn(u128) -> u128,
+    pub hold: fn(&Table, usize) -> u128,
+}
+
+pub const RULES: Rules = Rules { jitter_added, hold };
+
 /// Backlogs, delays and end-to-end delays, with test 13. A wire's backlog needs only wires of lower
 /// number, so the first wire over its room is found before anything beyond it is worked out.
-///
-/// `added` is `jitter_added`; the teeth of the slot machine hand in wrong ones.
-pub fn bounds(table: &Table, added: fn(u128) -> u128) -> Answer<Figures> {
+pub fn bounds(table: &Table, rules: &Rules) -> Answer<Figures> {
     let count = table.channels.len();
     let mut figures =
         Figures { backlogs: Vec::new(), delays: Vec::new(), ends: vec![0; count], jitters: vec![Vec::new(); count] };
     let mut carried = vec![0; count];
     for (number, wire) in table.wires.iter().enumerate() {
         let users: Vec<usize> = (0..count).filter(|&c| table.channels[c].route.contains(&number)).collect();
-        let backlog = backlog(table, &users, &carried);
+        let backlog = backlog(table, &users, &carried) + wire.rate * (rules.hold)(table, number);
         if backlog > wire.room {
             return refuse(13, number);
         }
@@ -271,7 +307,7 @@ pub fn bounds(table: &Table, added: fn(u128) -> u128) -> Answer<Figures> {
         for &user in &users {
             figures.jitters[user].push(carried[user]);
             figures.ends[user] += delay + wire.propagation;
-            carried[user] += added(delay);
+            carried[user] += (rules.jitter_added)(delay);
         }
         figures.backlogs.push(backlog);
         figures.delays.push(delay);
@@ -279,6 +315,7 @@ pub fn bounds(table: &Table, added: fn(u128) -> u128) -> Answer<Figures> {
     Ok(figures)
 }
 
+/// What the channels of a wire bring, without the cabins.
 fn backlog(table: &Table, users: &[usize], jitter: &[u128]) -> u128 {
     let h = table.hyperperiod;
     let mut sum = 0;
@@ -313,7 +350,7 @@ pub struct Accepted {
 pub fn verdict(bytes: &[u8], lent: usize) -> Answer<Accepted> {
     let table = decode(bytes)?;
     test_loads(&table)?;
-    let figures = bounds(&table, jitter_added)?;
+    let figures = bounds(&table, &RULES)?;
     test_deadlines(&table, &figures)?;
     let sheet = write_sheet(&figures);
     if lent < sheet.len() {

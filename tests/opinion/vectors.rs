@@ -9,7 +9,7 @@ use std::collections::BTreeMap;
 /// Lines that a whole file of vectors has.
 pub const LINES: usize = 700;
 /// Tables that are shipped at least.
-pub const TABLES: usize = 10;
+pub const TABLES: usize = 15;
 
 /// Runs a file of vectors; returns how many lines of each kind there were, or the first wrong line.
 pub fn run(text: &str, face: &dyn Face) -> Result<BTreeMap<String, usize>, String> {
@@ -149,7 +149,7 @@ pub fn shipped_tables(folder: &str, face: &dyn Face) -> Result<usize, String> {
     Ok(count)
 }
 
-/// The prices that document 01 and request Q-2 give to check by.
+/// The prices that document 01 and request Q-2 give to check by; Q-4 leaves them.
 pub fn document_prices(face: &dyn Face) -> Result<(), String> {
     let plain =
         [(1, 88), (37, 88), (38, 88), (39, 89), (1_492, 1_542), (1_493, 1_630), (1_530, 1_630), (65_535, 67_735)];
