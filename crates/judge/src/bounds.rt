@@ -258,7 +258,8 @@ fn walk(
     let mut end = [0u64; Table::CHANNELS_MOST];
     for w in 0..n {
         let held = hold(count[w], ahead[w], rate[w]);
-        let bytes = shares(table, w, count[w], list, hyper, &price, &times, &jitter) / hyper + held;
+        let own = shares(table, w, count[w], list, hyper, &price, &times, &jitter) / hyper;
+        let bytes = own + held;
         if room[w] < bytes {
             return unworked(Reading::Refused(13, w as u64));
         }

@@ -157,11 +157,11 @@ module _ (c : tie.After-shares Inv-loop μ-loop) where
   abbrev top : tie.At-loop Inv-loop μ-loop
   top = turn .before
 
-  abbrev divided : ℕ
-  divided = c .shares .result / st top .args .t .hyper
+  abbrev own : ℕ
+  own = c .shares .result / st top .args .t .hyper
 
   abbrev bytes : ℕ
-  bytes = divided + held .hold .result
+  bytes = own + held .hold .result
 
   bytes-fit : bytes < 2 ^ 64
   bytes-fit = omega (arith, hold-small held, div-le-self (c .shares .result) (st top .args .t .hyper), c .shares .ensures, shares-lt held)
@@ -174,8 +174,8 @@ module _ (c : tie.After-shares Inv-loop μ-loop) where
   told-room : getD (st top .args .t .room) (w top) 0 ≡ t top .room (w top)
   told-room = entry-at wiresMost _ _ _ (as-read top .room) (sound top .wires-most) (w top) (less turn)
 
-div-bytes : tie.Need-div-bytes Inv-loop μ-loop
-div-bytes c = omega (arith, as-read (top c) .hyper, sound (top c) .hyper-least)
+div-own : tie.Need-div-own Inv-loop μ-loop
+div-own c = omega (arith, as-read (top c) .hyper, sound (top c) .hyper-least)
 
 add-bytes : tie.Need-add-bytes Inv-loop μ-loop
 add-bytes c = omega (arith, bytes-fit c)
@@ -350,7 +350,7 @@ walk-spec =
     mul-shares
     element-copy-out-shares
     shares-requires
-    div-bytes
+    div-own
     add-bytes
     mul-if1
     array-read-if1
