@@ -103,6 +103,7 @@ fn run_vectors(file: &str, tables: &str) {
     });
     let told = |why: String| -> ! { fail(1, &format!("vectors: {why}")) };
     vectors::document_prices(face.as_ref()).unwrap_or_else(|why| told(why));
+    vectors::short_cases(face.as_ref()).unwrap_or_else(|why| told(why));
     let shipped = vectors::shipped_tables(tables, face.as_ref()).unwrap_or_else(|why| told(why));
     let kinds = vectors::run(&text, face.as_ref()).unwrap_or_else(|why| told(why));
     if kinds.values().sum::<usize>() < vectors::LINES || shipped < vectors::TABLES {

@@ -14,7 +14,7 @@ struct Script {
     /// Slots at a wire whose arrivals are put in another order: slot, wire, and the messages as
     /// channel and slot of release. Elsewhere they keep the order in which they left or were released.
     orders: &'static [(u64, usize, &'static [(usize, u64)])],
-    /// Slot, wire, and for how many slots the cabins want to hold it then. At other times they do not.
+    /// Slot, wire, and for how many slots the cabins hold it if they may then. At other times they do not.
     holds: &'static [(u64, usize, u64)],
 }
 
@@ -60,7 +60,8 @@ fn ending_together() -> Script {
 
 fn shuffled() -> Script {
     Script {
-        name: "a shuffled slot: releases in slot 0, frames due and a release in slot 5",
+        name:
+            "a shuffled slot: releases in slot 0, frames due and a release in slot 5; wire 1 not held again in slot 8",
         draft: draft(
             12,
             &[(2, 0), (2, 0)],
@@ -68,7 +69,7 @@ fn shuffled() -> Script {
         ),
         releases: vec![(0, 3, 62), (0, 0, 1), (0, 2, 62), (0, 1, 39), (5, 4, 1)],
         orders: &[(5, 1, &[(4, 5), (0, 0), (3, 0)])],
-        holds: &[(0, 0, 3), (5, 1, 5)],
+        holds: &[(0, 0, 3), (5, 1, 2), (8, 1, 4)],
     }
 }
 
@@ -141,15 +142,11 @@ impl Script {
                 frames.sort_by_key(|f| order.iter().position(|&message| message == (f.channel, f.born)));
             }
         };
-        let mut asked = 0;
         let mut cabins = |slot: u64, wire: usize, _| {
             let hold = self.holds.iter().find(|hold| (hold.0, hold.1) == (slot, wire));
-            asked += hold.is_some() as usize;
             hold.map_or(0, |hold| hold.2)
         };
-        let observed = machine::run(table, &releases, Choices { order: &mut order, cabins: &mut cabins }, watch);
-        assert_eq!(asked, self.holds.len(), "every hold is asked for");
-        observed
+        machine::run(table, &releases, Choices { order: &mut order, cabins: &mut cabins }, watch)
     }
 }
 

@@ -163,3 +163,19 @@ pub fn document_prices(face: &dyn Face) -> Result<(), String> {
     }
     Ok(())
 }
+
+/// Case A of request Q-4 with a room one byte short, with a deadline one slot short, and with too long a payload.
+pub fn short_cases(face: &dyn Face) -> Result<(), String> {
+    let cases = [
+        ("000370020200e0018c60001000058000c6b100", "refused 13 0\n"),
+        ("000370020200e0018c80001000058000c6a100", "refused 14 0\n"),
+        ("000370020200e0018c80027000058000c6b100", "refused 12 0\n"),
+    ];
+    for (table, expected) in cases {
+        let bytes = bytes(table)?;
+        if opinion::board(&bytes) != expected || board_by(&bytes, face) != expected {
+            return Err(format!("{table} is not {expected}"));
+        }
+    }
+    Ok(())
+}
