@@ -182,7 +182,7 @@ replay2 : replay (viewOf table2) (releasedBy releases2) (chosenBy holds2) lines2
 unfolding definitions nothing lineOf linesFrom replay table2 releases2 holds2 lines2
 replay2 = refl
 
--- A shuffled slot: releases in slot 0, frames due and a release in slot 5.
+-- A shuffled slot: releases in slot 0, frames due and a release in slot 5; wire 1 not held again in slot 8.
 table3 : List ℕ
 table3 = 0x00 ∷ 0x00 ∷ 0x0c ∷ 0x04 ∷ 0x0b ∷ 0x00 ∷ 0x00 ∷ 0x01 ∷ 0xb5 ∷ 0xb0 ∷ 0x00 ∷ 0x00 ∷ 0x23 ∷ 0xc0 ∷ 0x00 ∷ 0x01 ∷ 0x00 ∷ 0x00 ∷ 0x06 ∷ 0x00 ∷ 0x00 ∷ 0x52 ∷ 0x20 ∷ 0x01 ∷ 0x00 ∷ 0x13 ∷ 0x80 ∷ 0x00 ∷ 0x06 ∷ 0x00 ∷ 0x00 ∷ 0x29 ∷ 0x10 ∷ 0x00 ∷ 0x80 ∷ 0x0f ∷ 0x80 ∷ 0x00 ∷ 0x03 ∷ 0x00 ∷ 0x00 ∷ 0x09 ∷ 0x04 ∷ 0x00 ∷ 0x01 ∷ 0xf0 ∷ 0x00 ∷ 0x00 ∷ 0x60 ∷ 0x00 ∷ 0x02 ∷ 0x91 ∷ 0x00 ∷ 0x08 ∷ 0x00 ∷ 0x04 ∷ 0x00 ∷ 0x00 ∷ 0x10 ∷ 0x00 ∷ 0x00 ∷ 0xb8 ∷ 0x41 ∷ []
 
@@ -190,7 +190,7 @@ releases3 : List Entry
 releases3 = entry 0 3 62 ∷ entry 0 0 1 ∷ entry 0 2 62 ∷ entry 0 1 39 ∷ entry 5 4 1 ∷ []
 
 holds3 : List Entry
-holds3 = entry 0 0 3 ∷ entry 5 1 5 ∷ []
+holds3 = entry 0 0 3 ∷ entry 5 1 2 ∷ entry 8 1 4 ∷ []
 
 lines3 : List (List Line)
 lines3 =
@@ -199,13 +199,10 @@ lines3 =
     ∷ (line ([]) 401 1 ([]) ∷ line ([]) 0 0 ([]) ∷ [])
     ∷ (line ([]) 401 0 ([]) ∷ line ([]) 0 0 ([]) ∷ [])
     ∷ (line ([]) 301 0 (frame 3 0 112 ∷ frame 0 0 88 ∷ []) ∷ line ([]) 0 0 ([]) ∷ [])
-    ∷ (line ([]) 201 0 ([]) ∷ line (frame 4 5 88 ∷ frame 0 0 88 ∷ frame 3 0 112 ∷ []) 288 5 ([]) ∷ [])
-    ∷ (line ([]) 101 0 (frame 2 0 112 ∷ []) ∷ line ([]) 288 4 ([]) ∷ [])
-    ∷ (line ([]) 1 0 (frame 1 0 89 ∷ []) ∷ line ([]) 288 3 ([]) ∷ [])
-    ∷ (line ([]) 0 0 ([]) ∷ line (frame 1 0 89 ∷ []) 377 2 ([]) ∷ [])
-    ∷ (line ([]) 0 0 ([]) ∷ line ([]) 377 1 ([]) ∷ [])
-    ∷ (line ([]) 0 0 ([]) ∷ line ([]) 377 0 (frame 4 5 88 ∷ []) ∷ [])
-    ∷ (line ([]) 0 0 ([]) ∷ line ([]) 277 0 (frame 0 0 88 ∷ []) ∷ [])
+    ∷ (line ([]) 201 0 ([]) ∷ line (frame 4 5 88 ∷ frame 0 0 88 ∷ frame 3 0 112 ∷ []) 288 2 ([]) ∷ [])
+    ∷ (line ([]) 101 0 (frame 2 0 112 ∷ []) ∷ line ([]) 288 1 ([]) ∷ [])
+    ∷ (line ([]) 1 0 (frame 1 0 89 ∷ []) ∷ line ([]) 288 0 (frame 4 5 88 ∷ []) ∷ [])
+    ∷ (line ([]) 0 0 ([]) ∷ line (frame 1 0 89 ∷ []) 277 0 (frame 0 0 88 ∷ []) ∷ [])
     ∷ (line ([]) 0 0 ([]) ∷ line ([]) 177 0 (frame 3 0 112 ∷ []) ∷ [])
     ∷ (line ([]) 0 0 ([]) ∷ line ([]) 77 0 (frame 1 0 89 ∷ []) ∷ [])
     ∷ []
