@@ -1,7 +1,7 @@
 -- The step function gives an allowed run, for any releases, any order and any choice of holds.
 use mathlib.Core.Path.{_≡_, refl, ap, sym, _∙_}
 use mathlib.Core.Bool.{cond}
-use mathlib.Core.List.{List, [], _∷_, _++_}
+use mathlib.Core.List.{List, [], _∷_, _++_, map}
 use Prim.Native.Nat.{ℕ, zero, suc, _+_, _-_, _≤_, _<_}
 use native.Mathlib.Decide.{decLe, ℕ-discrete}
 use native.Mathlib.Omega.{arith}
@@ -12,7 +12,7 @@ use borrow.Author.Tests.{le-leb, lt-leb}
 use Rattle.rules.specs.Words.{listed, gathered, cut}
 use Rattle.rules.specs.Table.{View, Source, nowhere, release, wire, source}
 use Rattle.rules.specs.Bounds.{K}
-use Rattle.rules.specs.Machine.{Frame, Waiting, Releases, Gone, ofChannel, reaching, dueFrom, due, AnyOrder, sent, kept, joined, Holding, sending, Run, Allowed, nobody, Order, Choice, queueIn, heldIn, goneIn, arrivals, holding, step, played}
+use Rattle.rules.specs.Machine.{Frame, Waiting, whole, Releases, Gone, ofChannel, reaching, dueFrom, due, AnyOrder, sent, kept, joined, Holding, sending, Run, Allowed, nobody, Order, Choice, queueIn, heldIn, goneIn, arrivals, holding, step, played}
 use Rattle.rules.proofs.Columns.{length-listed, getD-listed}
 
 gathered-same : {A : Type 0} (f g : ℕ → List A) (n : ℕ) → ((i : ℕ) → f i ≡ g i) → gathered f n ≡ gathered g n
@@ -68,6 +68,11 @@ holding-left : (queue full : List Waiting) (chosen left : ℕ) → ¬ (queue ≡
 unfolding holding
 holding-left [] full chosen left more = absurd (more refl)
 holding-left (x ∷ queue) full chosen left more = refl
+
+holding-chosen : (arrived : List Frame) (chosen left : ℕ) → ¬ (arrived ≡ []) → holding [] (map whole arrived) chosen left ≡ chosen
+unfolding holding
+holding-chosen [] chosen left more = absurd (more refl)
+holding-chosen (f ∷ fs) chosen left more = refl
 
 module _ (t : View) (released : Releases) (order : Order) (choice : Choice) where
   -- what was gone in a slot, seen from right after it
@@ -145,10 +150,6 @@ module _ (t : View) (released : Releases) (order : Order) (choice : Choice) wher
   unfolding holding
   held-from-then-on w slot l queue arrived = held-now w slot l ∙ rw (queue, arrived) refl
 
-  pub held-not-again :
-      (w slot : ℕ) → w < t .wires → ¬ (queueIn (played t released order choice (suc slot)) w ≡ []) → heldAt w (suc slot) ≡ heldAt w slot - 1
-  held-not-again w slot l more = held-now w (suc slot) l ∙ holding-left _ _ _ _ more
-
   held-step : (w slot : ℕ) → w < t .wires → heldIn (played t released order choice slot) w ≤ K t w → heldAt w slot ≤ K t w
   held-step w slot l before =
       omega (
@@ -162,6 +163,16 @@ module _ (t : View) (released : Releases) (order : Order) (choice : Choice) wher
   unfolding played
   held-at-most w zero l = held-step w 0 l (omega (arith, getD-replicate {A = ℕ} (t .wires) w 0 0 l))
   held-at-most w (suc slot) l = held-step w (suc slot) l (held-at-most w slot l)
+
+  pub held-not-again :
+      (w slot : ℕ) → w < t .wires → ¬ (queueIn (played t released order choice (suc slot)) w ≡ []) → heldAt w (suc slot) ≡ heldAt w slot - 1
+  held-not-again w slot l more = held-now w (suc slot) l ∙ holding-left _ _ _ _ more
+
+  -- And where frames reach an empty queue it is the adversary's choice, cut to K.
+  pub held-chosen :
+      (w slot : ℕ) → w < t .wires → queueIn (played t released order choice slot) w ≡ [] → ¬ (arrivedAt w slot ≡ []) →
+      heldAt w slot ≡ cut (choice slot w) (K t w)
+  held-chosen w slot l queue more = held-now w slot l ∙ rw queue (holding-chosen (arrivedAt w slot) _ _ more)
 
 -- queue, arrivals and what is gone are the machine's
 abbrev pub played-run :
