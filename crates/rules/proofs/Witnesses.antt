@@ -114,6 +114,11 @@ pub held-figures : (K (viewOf heldUp) 0 ≡ 31) × (backlog (viewOf heldUp) 0 �
 unfolding definitions
 held-figures = (refl, refl, refl)
 
+-- a choice of more is cut to K
+pub held-cut : heldAt (viewOf heldUp) (periodic (viewOf heldUp)) in-turn (λ slot w. 1000) 0 0 ≡ K (viewOf heldUp) 0
+unfolding definitions
+held-cut = refl
+
 pub held-unsent : unsent runHeld 0 31 ≡ backlog (viewOf heldUp) 0
 unfolding definitions
 held-unsent = refl
@@ -249,7 +254,7 @@ b-load = refl
 -- A load one over: H 89, rate 1, one message of 90 bytes in 89 slots.
 pub over : List ℕ
 over =
-    0x00 ∷ 0x00 ∷ 0x59 ∷ 0x02 ∷ 0x02 ∷ 0x00 ∷ 0x00 ∷ 0x00 ∷ 0x7d ∷ 0x00 ∷ 0x02 ∷ 0x80 ∷ 0x00 ∷ 0x05 ∷ 0x90 ∷ 0x00 ∷ 0x3e ∷ 0x81 ∷ 0x00 ∷ []
+    0x00 ∷ 0x00 ∷ 0x59 ∷ 0x02 ∷ 0x02 ∷ 0x00 ∷ 0x00 ∷ 0x09 ∷ 0xc4 ∷ 0x00 ∷ 0x02 ∷ 0x80 ∷ 0x00 ∷ 0x05 ∷ 0x90 ∷ 0x02 ∷ 0x71 ∷ 0x01 ∷ 0x00 ∷ []
 
 pub one-over : judge over 12 ≡ refused 12 0
 unfolding over definitions
