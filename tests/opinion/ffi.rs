@@ -1,6 +1,7 @@
 //! The library's C face, `libmagsurinda.a`, and faces of the same kind: the baseline, and faces
-//! broken on purpose. With `--cfg archive` the runner links the library; without it only the
-//! baseline stands behind the same interface, to try the runner itself.
+//! broken on purpose. With `--cfg archive` the runner links the library, with `--cfg piped` it asks
+//! the library in another process; without either only the baseline stands behind the same
+//! interface, to try the runner itself.
 
 use crate::baseline;
 use crate::opinion::Answer;
@@ -76,7 +77,12 @@ pub fn built_for() -> Box<dyn Face> {
     Box::new(Library)
 }
 
-#[cfg(not(archive))]
+#[cfg(piped)]
+pub fn built_for() -> Box<dyn Face> {
+    Box::new(crate::piped::Library::start())
+}
+
+#[cfg(not(any(archive, piped)))]
 pub fn built_for() -> Box<dyn Face> {
     Box::new(Baseline)
 }
@@ -96,7 +102,12 @@ pub fn null_is_empty() -> bool {
     }
 }
 
-#[cfg(not(archive))]
+#[cfg(piped)]
+pub fn null_is_empty() -> bool {
+    crate::piped::Library::start().null_is_empty()
+}
+
+#[cfg(not(any(archive, piped)))]
 pub fn null_is_empty() -> bool {
     true
 }

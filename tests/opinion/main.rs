@@ -11,6 +11,8 @@ mod generate;
 mod hex;
 mod machine;
 mod opinion;
+#[cfg(piped)]
+mod piped;
 mod rng;
 mod scripted;
 mod vectors;

@@ -1,5 +1,6 @@
--- Document 01, with request Q-2's prices, as definitions, a file for each of its sections. What stands here is what a reader
--- must believe. Decoded is no section of it: it is the code's arrays over those definitions.
+-- Document 01, with requests Q-2 (prices) and Q-4 (office machines), as definitions, a file for each of its sections.
+-- What stands here is what a reader must believe. Decoded is no section of it: it is the code's arrays over those
+-- definitions.
 pub mod Words
 pub mod Numbers
 pub mod Replies
