@@ -19,7 +19,7 @@ use Rattle.rules.specs.Reading.{headTests, wireTests, hopTests, recordTe
 use Rattle.rules.specs.Bounds.{loadOf, load, along, jitter, K, shareOf, backlogAfter, delayAfter, delaysBelow, backlog, delay, endToEnd}
 use Rattle.rules.specs.Sheet.{figuresAt, endAt, sheetLength}
 use Rattle.rules.specs.Judgement.{loadTest, roomTest, deadlineTest, boundsTests, judge}
-use Rattle.rules.specs.Machine.{Frame, Releases, Keeps, message, ofChannel, bornIn, reaching, dueFrom, due, AnyOrder, none, more, here, sent, kept, bytes, Run, nobody, unsent, delivered, Order, Choice, arrivals, holding, step, played}
+use Rattle.rules.specs.Machine.{Frame, Releases, Keeps, message, ofChannel, bornIn, Gone, reaching, dueFrom, due, AnyOrder, none, more, here, sent, kept, bytes, Run, nobody, unsent, delivered, Order, Choice, arrivals, holding, step, played}
 use Rattle.rules.specs.Cases.{caseA, caseB}
 use Rattle.rules.proofs.Sums.{total-append}
 use Rattle.rules.proofs.Orders.{same, any-order-complete}
@@ -88,6 +88,14 @@ last-first-any slot w fs =
 abbrev pub longest : View → ℕ → Choice
 longest t end slot w = only (ltb slot end) (K t w)
 
+-- What follows is said of channel 0's message of slot 0: its only frame, and that it takes exactly so many slots.
+abbrev pub Sole : View → ℕ → Type 0
+Sole t size = message t (periodic t) 0 0 ≡ record { channel = 0; born = 0; size = size } ∷ []
+
+abbrev pub Takes : View → Gone → ℕ → Type 0
+Takes t gone slots =
+    (delivered t gone 0 0 (slots - 1) ≡ []) × (delivered t gone 0 0 slots ≡ message t (periodic t) 0 0)
+
 -- what the computations below see through
 unfoldable pub definitions : Unit {0}
 unfolding bit field sum total has begins some test each lastBytes price hyperOf wiresOf channelsOf wireAt codeOf rateOf propOf roomOf framingAt payloadAt periodAt deadlineAt hopsAt routeAt channelAt endOf fillingOf headTests wireTests hopTests recordTests channelTests fillingTests readingTests loadOf load along jitter K shareOf backlogAfter delayAfter delaysBelow backlog delay endToEnd figuresAt endAt sheetLength loadTest roomTest deadlineTest boundsTests judge listed gathered lastFrame frames message ofChannel bornIn after source reaching dueFrom due sent kept bytes lastWire delivered arrivals holding step played periodic backwards
@@ -123,19 +131,13 @@ pub held-unsent : unsent runHeld 0 31 ≡ backlog (viewOf heldUp) 0
 unfolding definitions
 held-unsent = refl
 
-pub held-message : message (viewOf heldUp) (periodic (viewOf heldUp)) 0 0 ≡ record { channel = 0; born = 0; size = 100 } ∷ []
+pub held-sole : Sole (viewOf heldUp) 100
 unfolding definitions
-held-message = refl
+held-sole = refl
 
-pub held-early : delivered (viewOf heldUp) (runHeld .gone) 0 0 (endToEnd (viewOf heldUp) 0 - 1) ≡ []
+pub held-takes : Takes (viewOf heldUp) (runHeld .gone) (endToEnd (viewOf heldUp) 0)
 unfolding definitions
-held-early = refl
-
-pub held-there :
-    delivered (viewOf heldUp) (runHeld .gone) 0 0 (endToEnd (viewOf heldUp) 0)
-    ≡ message (viewOf heldUp) (periodic (viewOf heldUp)) 0 0
-unfolding definitions
-held-there = refl
+held-takes = (refl, refl)
 
 -- A later wire, with a jitter that counts: H 66; two wires of rate 100; channel 0 payload 1, period 33, route 0, 1; channel 1
 -- payload 63, period 66, route 0. Wire 0 is held from slot 0 on; channel 1's frame goes first and keeps channel 0's first
@@ -155,20 +157,13 @@ pub later-figures : (K (viewOf later) 0 ≡ 31) × (K (viewOf later) 1 ≡ 16) �
 unfolding definitions
 later-figures = (refl, refl, refl, refl)
 
-pub later-message :
-    message (viewOf later) (periodic (viewOf later)) 0 0 ≡ record { channel = 0; born = 0; size = smallFrame } ∷ []
+pub later-sole : Sole (viewOf later) smallFrame
 unfolding definitions
-later-message = refl
+later-sole = refl
 
-pub later-early : delivered (viewOf later) (runLater .gone) 0 0 (endToEnd (viewOf later) 0 - 1) ≡ []
+pub later-takes : Takes (viewOf later) (runLater .gone) (endToEnd (viewOf later) 0)
 unfolding definitions
-later-early = refl
-
-pub later-there :
-    delivered (viewOf later) (runLater .gone) 0 0 (endToEnd (viewOf later) 0)
-    ≡ message (viewOf later) (periodic (viewOf later)) 0 0
-unfolding definitions
-later-there = refl
+later-takes = (refl, refl)
 
 -- A later wire that is full: H 96; four wires of rate 100; of wires 0, 1 and 2 each a channel of payload 50, period 96, that
 -- uses no other wire, and one of payload 50, period 3, that goes on to wire 3. Those three wires are held from slot 0 on,
@@ -200,24 +195,17 @@ pub a-accepted : judge caseA 12 ≡ granted (12 ∷ [])
 unfolding definitions
 a-accepted = refl
 
-pub a-message :
-    message (viewOf caseA) (periodic (viewOf caseA)) 0 0 ≡ record { channel = 0; born = 0; size = smallFrame } ∷ []
+pub a-sole : Sole (viewOf caseA) smallFrame
 unfolding definitions
-a-message = refl
+a-sole = refl
 
 pub a-unsent : unsent runA 0 0 ≡ smallFrame
 unfolding definitions
 a-unsent = refl
 
-pub a-early : delivered (viewOf caseA) (runA .gone) 0 0 (smallFrame + viewOf caseA .prop 0 - 1) ≡ []
+pub a-takes : Takes (viewOf caseA) (runA .gone) (smallFrame + viewOf caseA .prop 0)
 unfolding definitions
-a-early = refl
-
-pub a-there :
-    delivered (viewOf caseA) (runA .gone) 0 0 (smallFrame + viewOf caseA .prop 0)
-    ≡ message (viewOf caseA) (periodic (viewOf caseA)) 0 0
-unfolding definitions
-a-there = refl
+a-takes = (refl, refl)
 
 -- Two frames: H 100; two wires of rate 100, propagation 3 and 5; a channel of payload 1,493, period 100, route 0, 1. Nobody
 -- holds; the message is there with its second frame, not with its first.
