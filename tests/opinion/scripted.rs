@@ -34,8 +34,8 @@ fn draft(hyperperiod: u64, wires: &[(u64, u64)], channels: &[(u64, u64, &[u64])]
     draft
 }
 
-fn scripts() -> [Script; 5] {
-    [two_frames(), ending_together(), shuffled(), later_wire(), full_wire()]
+fn scripts() -> [Script; 6] {
+    [two_frames(), ending_together(), shuffled(), two_rates(), later_wire(), full_wire()]
 }
 
 fn two_frames() -> Script {
@@ -73,10 +73,20 @@ fn shuffled() -> Script {
     }
 }
 
+fn two_rates() -> Script {
+    Script {
+        name: "wires of rate 100 and 10",
+        draft: draft(20, &[(2, 0), (1, 1)], &[(1, 20, &[0, 1])]),
+        releases: vec![(0, 0, 1)],
+        orders: &[],
+        holds: &[(0, 0, 2), (3, 1, 3)],
+    }
+}
+
 fn later_wire() -> Script {
     Script {
         name: "delays reached exactly on a later wire",
-        draft: draft(33, &[(2, 0), (2, 0)], &[(1, 33, &[0, 1]), (63, 33, &[0])]),
+        draft: draft(66, &[(2, 0), (2, 0)], &[(1, 33, &[0, 1]), (63, 66, &[0])]),
         releases: vec![(0, 1, 63), (0, 0, 1), (33, 0, 1)],
         orders: &[(34, 1, &[(0, 33), (0, 0)])],
         holds: &[(0, 0, 31), (34, 1, 16)],
@@ -212,7 +222,7 @@ impl Exact {
 pub fn check_exact_runs() -> Result<(), String> {
     let later_wire = Exact {
         script: later_wire(),
-        table: "00002104050000019cb000000de000010000210000342001001f8000108000110800",
+        table: "00004204050000019cb000000de000010000210000342001001f8000210000110800",
         of_wire: |seen| seen.delays[1],
         reached: (18, 52),
     };

@@ -25,7 +25,7 @@ hold (c ∷ cs) e = e .0 and hold cs (e .1)
 each-holds : Each cases
 unfolding bit field putBit putField sum total has begins some test each lastBytes price askPrice hyperOf wiresOf channelsOf wireAt codeOf rateOf propOf roomOf framingAt payloadAt periodAt deadlineAt hopsAt routeAt channelAt endOf fillingOf headTests wireTests hopTests recordTests channelTests fillingTests readingTests loadOf load along jitter shareOf K backlogAfter delayAfter delaysBelow backlog delay endToEnd figuresAt endAt sheetLength withHead withWires withChannels sheetOf loadTest roomTest deadlineTest boundsTests judge sheet leaves buffer listed figuresOf evaluate
 each-holds =
-    ((refl, refl, refl, refl, refl, refl), ((refl, refl, refl, refl, refl, refl), ((refl, refl, refl, refl, refl, refl), ((refl, refl, refl, refl, refl, refl), ((refl, refl, refl, refl, refl, refl), ((refl, refl, refl, refl, refl, refl), ((refl, refl, refl, refl, refl, refl), ((refl, refl, refl, refl, refl, refl), ((refl, refl, refl, refl, refl, refl), ((refl, refl, refl, refl, refl, refl), ((refl, refl, refl, refl, refl, refl), ((refl, refl, refl, refl, refl, refl), ((refl, refl, refl, refl, refl, refl), ((refl, refl, refl, refl, refl, refl), ((refl, refl, refl, refl, refl, refl), ((refl, refl, refl, refl, refl, refl), ((refl, refl, refl, refl, refl, refl), ((refl, refl, refl, refl, refl, refl), ((refl, refl, refl, refl, refl, refl), tt)))))))))))))))))))
+    ((refl, refl, refl, refl, refl, refl), ((refl, refl, refl, refl, refl, refl), ((refl, refl, refl, refl, refl, refl), ((refl, refl, refl, refl, refl, refl), ((refl, refl, refl, refl, refl, refl), ((refl, refl, refl, refl, refl, refl), ((refl, refl, refl, refl, refl, refl), ((refl, refl, refl, refl, refl, refl), ((refl, refl, refl, refl, refl, refl), ((refl, refl, refl, refl, refl, refl), ((refl, refl, refl, refl, refl, refl), ((refl, refl, refl, refl, refl, refl), ((refl, refl, refl, refl, refl, refl), ((refl, refl, refl, refl, refl, refl), ((refl, refl, refl, refl, refl, refl), ((refl, refl, refl, refl, refl, refl), ((refl, refl, refl, refl, refl, refl), ((refl, refl, refl, refl, refl, refl), ((refl, refl, refl, refl, refl, refl), ((refl, refl, refl, refl, refl, refl), tt))))))))))))))))))))
 
 pub marked-cases : MarkedCases
 marked-cases = hold cases each-holds

@@ -3,15 +3,15 @@ use mathlib.Core.Path.{_≡_, refl, ap, sym, _∙_}
 use mathlib.Core.Bool.{true, false}
 use mathlib.Core.List.{[], _∷_, _++_}
 use Prim.Native.Nat.{ℕ, zero, suc, _+_, _-_, _*_, _/_, _≤_, _<_}
-use native.Mathlib.Nat.{div-eq-of-lt, mul-le-mul-right, le-div-iff-mul-le, lt-div-mul-add}
+use native.Mathlib.Nat.{add-mul-div-left, div-eq-of-lt, mul-le-mul-right, le-div-iff-mul-le, lt-div-mul-add}
 use native.Mathlib.Decide.{ℕ-discrete}
 use native.Mathlib.Omega.{arith}
 use lib.ListN.{length, length-append, List·getD-append}
 use lib.Seq.{getD-append-add}
-use Rattle.rules.specs.Words.{sum}
+use Rattle.rules.specs.Words.{sum, up}
 use Rattle.rules.specs.Price.{smallFrame}
 use Rattle.rules.specs.Table.{View}
-use Rattle.rules.specs.Bounds.{cost, on, along, jitter, shareOf, backlogAfter, delayAfter, delaysBelow, known, backlog, delay}
+use Rattle.rules.specs.Bounds.{cost, on, carries, K, along, jitter, shareOf, backlogAfter, delayAfter, delaysBelow, known, backlog, delay}
 use Rattle.rules.proofs.Sound.{Sound, Climbs}
 use Rattle.rules.proofs.Sums.{sum-has, sum-none, sum-same, none-some}
 use Rattle.rules.proofs.Prices.{price-least}
@@ -65,6 +65,16 @@ delay-least t sound w k lw lk there =
     let dear : smallFrame * t .hyper ≤ cost t k * t .hyper = mul-le-mul-right (t .hyper) (prices-least t sound k lk) in
     let some : 1 ≤ shares / t .hyper = le-div-iff-mul-le (sound .hyper-least) .1 (omega (arith, sum-has (shareOf t (known t w) w) (t .channels) k lk)) in
     le-div-iff-mul-le (sound .rate-least w lw) .1 (omega (arith, some, sound .rate-least w lw))
+
+-- A wire that carries channels has K more delay than its channels' shares alone give it.
+pub delay-held :
+    (t : View) (w : ℕ) → 1 ≤ t .rate w → carries t w ≡ true →
+    delay t w ≡ up (sum (shareOf t (known t w) w) (t .channels) / t .hyper) (t .rate w) + K t w
+unfolding delay delayAfter backlogAfter
+delay-held t w l some =
+    let own = sum (shareOf t (known t w) w) (t .channels) / t .hyper in
+    let together : own + t .rate w * K t w + (t .rate w - 1) ≡ own + (t .rate w - 1) + t .rate w * K t w = omega arith in
+    rw (some, together) (add-mul-div-left (own + (t .rate w - 1)) (K t w) l)
 
 -- A wire that no route uses has backlog 0 and delay 0.
 pub unused :

@@ -211,18 +211,51 @@ replay3 : replay (viewOf table3) (releasedBy releases3) (chosenBy holds3) lines3
 unfolding definitions nothing lineOf linesFrom replay table3 releases3 holds3 lines3
 replay3 = refl
 
--- Delays reached exactly on a later wire.
+-- Wires of rate 100 and 10.
 table4 : List ℕ
-table4 = 0x00 ∷ 0x00 ∷ 0x21 ∷ 0x04 ∷ 0x05 ∷ 0x00 ∷ 0x00 ∷ 0x01 ∷ 0x9c ∷ 0xb0 ∷ 0x00 ∷ 0x00 ∷ 0x0d ∷ 0xe0 ∷ 0x00 ∷ 0x01 ∷ 0x00 ∷ 0x00 ∷ 0x21 ∷ 0x00 ∷ 0x00 ∷ 0x34 ∷ 0x20 ∷ 0x01 ∷ 0x00 ∷ 0x1f ∷ 0x80 ∷ 0x00 ∷ 0x10 ∷ 0x80 ∷ 0x00 ∷ 0x11 ∷ 0x08 ∷ 0x00 ∷ []
+table4 = 0x00 ∷ 0x00 ∷ 0x14 ∷ 0x04 ∷ 0x03 ∷ 0x00 ∷ 0x00 ∷ 0x01 ∷ 0x8e ∷ 0x88 ∷ 0x02 ∷ 0x00 ∷ 0x0d ∷ 0xdc ∷ 0x00 ∷ 0x01 ∷ 0x00 ∷ 0x00 ∷ 0x14 ∷ 0x00 ∷ 0x00 ∷ 0xd3 ∷ 0x20 ∷ 0x01 ∷ []
 
 releases4 : List Entry
-releases4 = entry 0 1 63 ∷ entry 0 0 1 ∷ entry 33 0 1 ∷ []
+releases4 = entry 0 0 1 ∷ []
 
 holds4 : List Entry
-holds4 = entry 0 0 31 ∷ entry 34 1 16 ∷ []
+holds4 = entry 0 0 2 ∷ entry 3 1 3 ∷ []
 
 lines4 : List (List Line)
 lines4 =
+    (line (frame 0 0 88 ∷ []) 88 2 ([]) ∷ line ([]) 0 0 ([]) ∷ [])
+    ∷ (line ([]) 88 1 ([]) ∷ line ([]) 0 0 ([]) ∷ [])
+    ∷ (line ([]) 88 0 (frame 0 0 88 ∷ []) ∷ line ([]) 0 0 ([]) ∷ [])
+    ∷ (line ([]) 0 0 ([]) ∷ line (frame 0 0 88 ∷ []) 88 3 ([]) ∷ [])
+    ∷ (line ([]) 0 0 ([]) ∷ line ([]) 88 2 ([]) ∷ [])
+    ∷ (line ([]) 0 0 ([]) ∷ line ([]) 88 1 ([]) ∷ [])
+    ∷ (line ([]) 0 0 ([]) ∷ line ([]) 88 0 ([]) ∷ [])
+    ∷ (line ([]) 0 0 ([]) ∷ line ([]) 78 0 ([]) ∷ [])
+    ∷ (line ([]) 0 0 ([]) ∷ line ([]) 68 0 ([]) ∷ [])
+    ∷ (line ([]) 0 0 ([]) ∷ line ([]) 58 0 ([]) ∷ [])
+    ∷ (line ([]) 0 0 ([]) ∷ line ([]) 48 0 ([]) ∷ [])
+    ∷ (line ([]) 0 0 ([]) ∷ line ([]) 38 0 ([]) ∷ [])
+    ∷ (line ([]) 0 0 ([]) ∷ line ([]) 28 0 ([]) ∷ [])
+    ∷ (line ([]) 0 0 ([]) ∷ line ([]) 18 0 ([]) ∷ [])
+    ∷ (line ([]) 0 0 ([]) ∷ line ([]) 8 0 (frame 0 0 88 ∷ []) ∷ [])
+    ∷ []
+
+replay4 : replay (viewOf table4) (releasedBy releases4) (chosenBy holds4) lines4 ≡ lines4
+unfolding definitions nothing lineOf linesFrom replay table4 releases4 holds4 lines4
+replay4 = refl
+
+-- Delays reached exactly on a later wire.
+table5 : List ℕ
+table5 = 0x00 ∷ 0x00 ∷ 0x42 ∷ 0x04 ∷ 0x05 ∷ 0x00 ∷ 0x00 ∷ 0x01 ∷ 0x9c ∷ 0xb0 ∷ 0x00 ∷ 0x00 ∷ 0x0d ∷ 0xe0 ∷ 0x00 ∷ 0x01 ∷ 0x00 ∷ 0x00 ∷ 0x21 ∷ 0x00 ∷ 0x00 ∷ 0x34 ∷ 0x20 ∷ 0x01 ∷ 0x00 ∷ 0x1f ∷ 0x80 ∷ 0x00 ∷ 0x21 ∷ 0x00 ∷ 0x00 ∷ 0x11 ∷ 0x08 ∷ 0x00 ∷ []
+
+releases5 : List Entry
+releases5 = entry 0 1 63 ∷ entry 0 0 1 ∷ entry 33 0 1 ∷ []
+
+holds5 : List Entry
+holds5 = entry 0 0 31 ∷ entry 34 1 16 ∷ []
+
+lines5 : List (List Line)
+lines5 =
     (line (frame 1 0 113 ∷ frame 0 0 88 ∷ []) 201 31 ([]) ∷ line ([]) 0 0 ([]) ∷ [])
     ∷ (line ([]) 201 30 ([]) ∷ line ([]) 0 0 ([]) ∷ [])
     ∷ (line ([]) 201 29 ([]) ∷ line ([]) 0 0 ([]) ∷ [])
@@ -277,22 +310,22 @@ lines4 =
     ∷ (line ([]) 0 0 ([]) ∷ line ([]) 76 0 (frame 0 0 88 ∷ []) ∷ [])
     ∷ []
 
-replay4 : replay (viewOf table4) (releasedBy releases4) (chosenBy holds4) lines4 ≡ lines4
-unfolding definitions nothing lineOf linesFrom replay table4 releases4 holds4 lines4
-replay4 = refl
+replay5 : replay (viewOf table5) (releasedBy releases5) (chosenBy holds5) lines5 ≡ lines5
+unfolding definitions nothing lineOf linesFrom replay table5 releases5 holds5 lines5
+replay5 = refl
 
 -- Figures reached exactly on a wire full of load.
-table5 : List ℕ
-table5 = 0x00 ∷ 0x00 ∷ 0x01 ∷ 0x02 ∷ 0x03 ∷ 0x00 ∷ 0x00 ∷ 0x01 ∷ 0x90 ∷ 0x00 ∷ 0x03 ∷ 0x20 ∷ 0x00 ∷ 0x00 ∷ 0x10 ∷ 0x00 ∷ 0x02 ∷ 0x01 ∷ 0x00 ∷ []
+table6 : List ℕ
+table6 = 0x00 ∷ 0x00 ∷ 0x01 ∷ 0x02 ∷ 0x03 ∷ 0x00 ∷ 0x00 ∷ 0x01 ∷ 0x90 ∷ 0x00 ∷ 0x03 ∷ 0x20 ∷ 0x00 ∷ 0x00 ∷ 0x10 ∷ 0x00 ∷ 0x02 ∷ 0x01 ∷ 0x00 ∷ []
 
-releases5 : List Entry
-releases5 = entry 0 0 50 ∷ entry 1 0 50 ∷ entry 2 0 50 ∷ entry 3 0 50 ∷ entry 4 0 50 ∷ entry 5 0 50 ∷ entry 6 0 50 ∷ entry 7 0 50 ∷ entry 8 0 50 ∷ entry 9 0 50 ∷ entry 10 0 50 ∷ entry 11 0 50 ∷ entry 12 0 50 ∷ entry 13 0 50 ∷ entry 14 0 50 ∷ entry 15 0 50 ∷ entry 16 0 50 ∷ entry 17 0 50 ∷ entry 18 0 50 ∷ entry 19 0 50 ∷ entry 20 0 50 ∷ entry 21 0 50 ∷ entry 22 0 50 ∷ entry 23 0 50 ∷ entry 24 0 50 ∷ entry 25 0 50 ∷ entry 26 0 50 ∷ entry 27 0 50 ∷ entry 28 0 50 ∷ entry 29 0 50 ∷ entry 30 0 50 ∷ entry 31 0 50 ∷ entry 32 0 50 ∷ entry 33 0 50 ∷ []
+releases6 : List Entry
+releases6 = entry 0 0 50 ∷ entry 1 0 50 ∷ entry 2 0 50 ∷ entry 3 0 50 ∷ entry 4 0 50 ∷ entry 5 0 50 ∷ entry 6 0 50 ∷ entry 7 0 50 ∷ entry 8 0 50 ∷ entry 9 0 50 ∷ entry 10 0 50 ∷ entry 11 0 50 ∷ entry 12 0 50 ∷ entry 13 0 50 ∷ entry 14 0 50 ∷ entry 15 0 50 ∷ entry 16 0 50 ∷ entry 17 0 50 ∷ entry 18 0 50 ∷ entry 19 0 50 ∷ entry 20 0 50 ∷ entry 21 0 50 ∷ entry 22 0 50 ∷ entry 23 0 50 ∷ entry 24 0 50 ∷ entry 25 0 50 ∷ entry 26 0 50 ∷ entry 27 0 50 ∷ entry 28 0 50 ∷ entry 29 0 50 ∷ entry 30 0 50 ∷ entry 31 0 50 ∷ entry 32 0 50 ∷ entry 33 0 50 ∷ []
 
-holds5 : List Entry
-holds5 = entry 0 0 31 ∷ []
+holds6 : List Entry
+holds6 = entry 0 0 31 ∷ []
 
-lines5 : List (List Line)
-lines5 =
+lines6 : List (List Line)
+lines6 =
     (line (frame 0 0 100 ∷ []) 100 31 ([]) ∷ [])
     ∷ (line (frame 0 1 100 ∷ []) 200 30 ([]) ∷ [])
     ∷ (line (frame 0 2 100 ∷ []) 300 29 ([]) ∷ [])
@@ -360,6 +393,6 @@ lines5 =
     ∷ (line ([]) 100 0 (frame 0 33 100 ∷ []) ∷ [])
     ∷ []
 
-replay5 : replay (viewOf table5) (releasedBy releases5) (chosenBy holds5) lines5 ≡ lines5
-unfolding definitions nothing lineOf linesFrom replay table5 releases5 holds5 lines5
-replay5 = refl
+replay6 : replay (viewOf table6) (releasedBy releases6) (chosenBy holds6) lines6 ≡ lines6
+unfolding definitions nothing lineOf linesFrom replay table6 releases6 holds6 lines6
+replay6 = refl

@@ -122,7 +122,7 @@ pub held-figures : (K (viewOf heldUp) 0 ≡ 31) × (backlog (viewOf heldUp) 0 �
 unfolding definitions
 held-figures = (refl, refl, refl)
 
--- a choice of more is cut to K
+-- a choice of more is cut to K, of each wire its own
 pub held-cut : heldAt (viewOf heldUp) (periodic (viewOf heldUp)) in-turn (λ slot w. 1000) 0 0 ≡ K (viewOf heldUp) 0
 unfolding definitions
 held-cut = refl
@@ -156,6 +156,10 @@ later-accepted = refl
 pub later-figures : (K (viewOf later) 0 ≡ 31) × (K (viewOf later) 1 ≡ 16) × (backlog (viewOf later) 1 ≡ 1776) × (endToEnd (viewOf later) 0 ≡ 52)
 unfolding definitions
 later-figures = (refl, refl, refl, refl)
+
+pub later-cut : heldAt (viewOf later) (periodic (viewOf later)) last-first (λ slot w. 1000) 1 34 ≡ K (viewOf later) 1
+unfolding definitions
+later-cut = refl
 
 pub later-sole : Sole (viewOf later) smallFrame
 unfolding definitions

@@ -115,9 +115,9 @@ pub record Run (t : View) (released : Releases) (held : Holding) : Type 0 where
 -- Request Q-4's three conditions on whoever runs the cabins; where listed frames reach an empty queue, any number of slots
 -- from 0 to K may be chosen.
 pub record Allowed {t : View} {released : Releases} {held : Holding} (run : Run t released held) : Type 0 where
-  -- When listed frames reach an empty queue, a wire may be held from that slot on:
+  -- When listed frames reach an empty queue, a wire may be held from that slot on: not where nothing waits,
   pub from-then-on : (w slot : ℕ) → w < t .wires → run .queue w slot ≡ [] → run .arrived w slot ≡ [] → held w slot ≡ 0
-  -- at most K slots in a row,
+  -- at most K slots in a row (the next of which is one less),
   pub at-most : (w slot : ℕ) → w < t .wires → held w slot ≤ K t w
   -- and not again until that queue has run empty after sending.
   pub not-again : (w slot : ℕ) → w < t .wires → ¬ (run .queue w (suc slot) ≡ []) → held w (suc slot) ≡ held w slot - 1
