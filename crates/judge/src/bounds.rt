@@ -18,7 +18,7 @@ ghost use Rattle.rules.specs.Decoded.{tableOf, column};
 ghost use Rattle.rules.proofs.Sound.{Sound};
 ghost use Rattle.table.specs.Stages.{after, IfRead};
 ghost use Rattle.judge.specs.Filed.{Stretch, Raised};
-ghost use Rattle.judge.specs.Figures.{FiledBelow, part as partOf, AheadBelow, aheadOf, limitTest, WorkedOut};
+ghost use Rattle.judge.specs.Figures.{FiledBelow, part as partOf, AheadBelow, limitTest, WorkedOut};
 use rules::Reading;
 use rules::Row;
 use rules::Table;
@@ -99,7 +99,7 @@ fn file(
     }
 }
 
-// A wire that is first on some route may be held for two full frames; before, each has one.
+// Each wire starts with one full frame that it may be held for; one that is first on some route gets two.
 fn file_firsts(table: &[u8], t: Table, ahead: &mut [u64; Table::WIRES_MOST])
     requires { ⌜ Sound (viewOf (now table)) ⌝ }
     requires { ⌜ t ≡ tableOf (viewOf (now table)) ⌝ }
