@@ -204,7 +204,7 @@ module _
               sum-scale d (loadOf t w) (t .channels),
             )
 
-        -- What stands in the way where a queue is empty is Q-4's addition: all of it on a wire that carries channels, and
+        -- What stands in the way is never more than Q-4's addition: at most K slots on a wire that carries channels, and
         -- nothing on another, to which nothing comes.
         blocked-most : (a : ℕ) → blocked w a ≤ only (carries t w) (t .rate w * K t w)
         blocked-most a =
