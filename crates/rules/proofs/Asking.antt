@@ -14,19 +14,9 @@ use Rattle.rules.specs.Table.{View, viewOf, fillingOf}
 use Rattle.rules.specs.Bounds.{backlog, delay, endToEnd}
 use Rattle.rules.specs.Sheet.{endAt, sheetLength, sheetOf, sheetWires, sheetChannels, sheetTests, askWire, askChannel}
 use Rattle.rules.specs.Judgement.{lengthOf, judge, sheet, leaves, buffer}
+use Rattle.rules.specs.Incident.{Always, NoSheet, Answers, AnswersOf, LeavesNoSheet}
 use Rattle.rules.proofs.SheetReplies.{Counted, tests-short, tests-length, tests-pass}
 use Rattle.rules.proofs.SheetLaws.{Fits, sheet-shortest, length-sheetOf, bytes-sheetOf, filling-sheetOf, wires-sheetOf, channels-sheetOf, backlog-sheetOf, delay-sheetOf, end-sheetOf}
-
--- asked of s for any wire or channel, the reply is r
-abbrev pub Always : List ℕ → Reply → Type 0
-Always s r = (i : ℕ) → (askWire s i ≡ r) × (askChannel s i ≡ r)
-
--- asked, s gives these figures below its counts, and 19 for every other number
-pub record Answers (s : List ℕ) (n m : ℕ) (b d e : ℕ → ℕ) : Type 0 where
-  pub wire : (w : ℕ) → w < n → askWire s w ≡ granted (b w ∷ d w ∷ [])
-  pub no-wire : (w : ℕ) → n ≤ w → askWire s w ≡ refused 19 0
-  pub channel : (k : ℕ) → k < m → askChannel s k ≡ granted (e k ∷ [])
-  pub no-channel : (k : ℕ) → m ≤ k → askChannel s k ≡ refused 19 0
 
 always : (s : List ℕ) (r : Reply) → ((rest : Reply) → sheetTests s rest ≡ r) → Always s r
 unfolding askWire askChannel
@@ -88,10 +78,6 @@ module _ (n m : ℕ) (b d e : ℕ → ℕ) (fits : Fits n m b d e) where
 pub ask-short : (s : List ℕ) → length s < 2 → Always s (refused 16 0)
 ask-short s l = always s (refused 16 0) (λ rest. tests-short s rest l)
 
--- what a refusal of a table leaves: no sheet of any table
-abbrev pub NoSheet : ℕ → List ℕ → Type 0
-NoSheet lent s = (lent < 2 → Always s (refused 16 0)) × (2 ≤ lent → Always s (refused 17 0))
-
 -- the first 7 bits of 255 are 127 wires
 ask-filled : (lent : ℕ) → 2 ≤ lent → Always (replicate lent 255) (refused 17 0)
 unfolding bit field sheetWires sheetTests test
@@ -108,9 +94,6 @@ no-sheet lent = (λ l. ask-short (replicate lent 255) (rw length-replicate l), a
 -- the view's counts and figures fit the sheet
 abbrev pub FitsSheet : View → Type 0
 FitsSheet t = Fits (t .wires) (t .channels) (backlog t) (delay t) (endToEnd t)
-
-abbrev pub AnswersOf : List ℕ → View → Type 0
-AnswersOf s t = Answers s (t .wires) (t .channels) (backlog t) (delay t) (endToEnd t)
 
 pub length-sheet : (t : View) → length (sheet t) ≡ lengthOf t
 unfolding sheet
@@ -155,9 +138,6 @@ module _ (s : List ℕ) (lent : ℕ) where
   unfolding buffer
   buffer-of r e = ap (λ (x : Reply). leaves x (viewOf s) lent) e
 
-  pub refused-asked : (number place : ℕ) → judge s lent ≡ refused number place → NoSheet lent (buffer s lent)
-  refused-asked number place e = rw (buffer-of _ e) (ask-refused (viewOf s) lent number place)
-
   module _ (len : ℕ) (e : judge s lent ≡ granted (len ∷ [])) (is : len ≡ lengthOf (viewOf s)) where
     pub accepted-sheet : take len (buffer s lent) ≡ sheet (viewOf s)
     accepted-sheet = rw (buffer-of _ e, is) (take-granted (viewOf s) lent _)
@@ -167,3 +147,6 @@ module _ (s : List ℕ) (lent : ℕ) where
 
     pub accepted-whole : FitsSheet (viewOf s) → len < lent → Always (buffer s lent) (refused 16 0)
     accepted-whole fits l = rw (buffer-of _ e) (ask-whole (viewOf s) lent _ fits (rw (← is) l))
+
+pub refused-asked : LeavesNoSheet
+refused-asked s lent number place e = rw (buffer-of s lent _ e) (ask-refused (viewOf s) lent number place)

@@ -1,6 +1,7 @@
 -- Laws of the figures: the delays that a wire's figures go by, and what a delay is enough for.
 use mathlib.Core.Path.{_≡_, refl, ap, sym, _∙_}
 use mathlib.Core.Bool.{true, false}
+use mathlib.Core.Logic.{inl, inr}
 use mathlib.Core.List.{[], _∷_, _++_}
 use Prim.Native.Nat.{ℕ, zero, suc, _+_, _-_, _*_, _/_, _≤_, _<_}
 use native.Mathlib.Nat.{add-mul-div-left, div-eq-of-lt, mul-le-mul-right, le-div-iff-mul-le, lt-div-mul-add}
@@ -11,9 +12,10 @@ use lib.Seq.{getD-append-add}
 use Rattle.rules.specs.Words.{sum, up}
 use Rattle.rules.specs.Price.{smallFrame}
 use Rattle.rules.specs.Table.{View}
-use Rattle.rules.specs.Bounds.{cost, on, carries, K, along, jitter, shareOf, backlogAfter, delayAfter, delaysBelow, known, backlog, delay}
+use Rattle.rules.specs.Bounds.{cost, on, first, carries, K, along, jitter, shareOf, backlogAfter, delayAfter, delaysBelow, known, backlog, delay}
 use Rattle.rules.proofs.Sound.{Sound, Climbs}
 use Rattle.rules.proofs.Sums.{sum-has, sum-none, sum-same, none-some}
+use Rattle.rules.proofs.Orders.{bool-cases}
 use Rattle.rules.proofs.Prices.{price-least}
 use Rattle.rules.proofs.Routes.{along-same}
 
@@ -75,6 +77,17 @@ delay-held t w l some =
     let own = sum (shareOf t (known t w) w) (t .channels) / t .hyper in
     let together : own + t .rate w * K t w + (t .rate w - 1) ≡ own + (t .rate w - 1) + t .rate w * K t w = omega arith in
     rw (some, together) (add-mul-div-left (own + (t .rate w - 1)) (K t w) l)
+
+-- so it has a delay
+pub delay-carries : (t : View) (w : ℕ) → 1 ≤ t .rate w → carries t w ≡ true → 1 ≤ delay t w
+unfolding K
+delay-carries t w l some =
+    let held : 1 ≤ K t w =
+    elim (bool-cases (first t w)) [
+      | inl yes₁ ↦ rw yes₁ (le-div-iff-mul-le l .1 (omega arith))
+      | inr no₁ ↦ rw no₁ (le-div-iff-mul-le l .1 (omega arith))
+    ] in
+    omega (arith, delay-held t w l some)
 
 -- A wire that no route uses has backlog 0 and delay 0.
 pub unused :

@@ -1,4 +1,5 @@
--- Demand 3 to the figures: no wire holds more than its backlog, and a message is whole by its channel's end-to-end delay.
+-- Demand 3 to the figures: no wire holds more than its backlog, what reaches it has left within its delay, and a message is
+-- whole by its channel's end-to-end delay.
 use mathlib.Core.Path.{_≡_, refl, ap, _∙_}
 use mathlib.Core.Bool.{false}
 use mathlib.Core.Logic.{inl, inr}
@@ -13,13 +14,14 @@ use Rattle.rules.specs.Price.{price, lastBytes}
 use Rattle.rules.specs.Table.{View, lastWire}
 use Rattle.rules.specs.Bounds.{cost, times, on, carries, K, loadOf, load, shareOf, backlogAfter, known, backlog, delay, endToEnd}
 use Rattle.rules.specs.Machine.{Frame, Releases, Keeps, Holding, Run, Allowed, AnyOrder, message, sending, bytes, unsent, Gone, reaching, delivered, ofChannel}
+use Rattle.rules.specs.Promise.{Among}
 use Rattle.rules.proofs.Sound.{Sound}
 use Rattle.rules.proofs.Sums.{sum-le, sum-same, sum-add, sum-scale, sum-none, sum-alone, sum-grows, total-gathered, total-empty, some-none}
-use Rattle.rules.proofs.Orders.{bool-cases, same, any-order-complete}
+use Rattle.rules.proofs.Orders.{bool-cases, same, any-order-complete, among-complete}
 use Rattle.rules.proofs.Prices.{frames-price, price-grows}
 use Rattle.rules.proofs.Routes.{nowhere-off, last-there, last-total, route-same, along-add, climbs-below}
 use Rattle.rules.proofs.Gaps.{window-most}
-use Rattle.rules.proofs.Delays.{jitter-known, delay-enough, delay-least}
+use Rattle.rules.proofs.Delays.{jitter-known, delay-enough, delay-least, delay-carries}
 use Rattle.rules.proofs.Server.{Server, Bursts, Passes, before, sizeOf, balance}
 use Rattle.rules.proofs.Flow.{own, young, into, total-channel, total-born, total-message, message-young, message-other, none-into, reached, came-sum, came-own, flows, window, longer, shortest}
 use Rattle.rules.proofs.Network.{network}
@@ -140,14 +142,17 @@ module _
         }
 
     -- To a wire that carries no channel nothing comes.
+    none-came : (w : ℕ) → w < t .wires → carries t w ≡ false → (g : Frame → ℕ) (n : ℕ) → before (run .arrived w) g n ≡ 0
+    none-came w l off g n =
+        came-sum t released (run .arrived) (run .gone) (run .any-order) w l g n
+        ∙ sum-same _ (λ k. 0) (t .channels) (λ k lk. none-into t released (run .gone) w k (nowhere-off w (t .route k) (some-none (on t w) (t .channels) off k lk)) g n)
+        ∙ sum-none (t .channels)
+
     idle : (w : ℕ) → w < t .wires → carries t w ≡ false → (a : ℕ) → (run .queue w a ≡ []) × (run .arrived w a ≡ [])
     unfolding sum
     idle w l off a =
         let one : Frame → ℕ = λ f. 1 in
-        let none : (n : ℕ) → before (run .arrived w) one n ≡ 0 =
-        λ n. came-sum t released (run .arrived) (run .gone) (run .any-order) w l one n
-        ∙ sum-same _ (λ k. 0) (t .channels) (λ k lk. none-into t released (run .gone) w k (nowhere-off w (t .route k) (some-none (on t w) (t .channels) off k lk)) one n)
-        ∙ sum-none (t .channels) in
+        let none = none-came w l off one in
         let waits = balance (t .rate w) _ (blocked w) (λ s. 0) (run .queue w) (run .arrived w) (run .gone w) (base w l) one a in
         (total-empty (run .queue w a) (omega (arith, waits, none a)), total-empty (run .arrived w a) (omega (arith, none a, none (suc a))))
 
@@ -244,6 +249,29 @@ module _
 
     pub backlog-holds : (w slot : ℕ) → w < t .wires → unsent run w slot ≤ backlog t w
     backlog-holds w slot l = omega (arith, wired w l .1 slot)
+
+    -- What has reached a wire by a slot has left it within its delay.
+    left-total : (w slot : ℕ) → w < t .wires → (g : Frame → ℕ) → before (run .arrived w) g (suc slot) ≤ before (run .gone w) g (slot + delay t w)
+    left-total w slot l g =
+        elim (bool-cases (carries t w)) [
+          | inl some ↦
+              (let e : suc (slot + lagOf t w) ≡ slot + delay t w = omega (arith, delay-carries t w (sound .rate-least w l) some) in
+              omega (arith, wired w l .0 .prompt g slot, ap (before (run .gone w) g) e))
+          | inr off ↦ omega (arith, none-came w l off g (suc slot))
+        ]
+
+    pub left-within :
+        (w slot n : ℕ) → w < t .wires → slot + delay t w ≤ n → Among (gathered (run .arrived w) (suc slot)) (gathered (run .gone w) n)
+    left-within w slot n l by =
+        among-complete (gathered (run .arrived w) (suc slot)) (gathered (run .gone w) n) (λ f.
+        let one : Frame → ℕ = λ x. only (same f x) 1 in
+        omega (
+          arith,
+          total-gathered one (run .arrived w) (suc slot),
+          total-gathered one (run .gone w) n,
+          left-total w slot l one,
+          sum-grows (λ (i : ℕ). total one (run .gone w i)) (slot + delay t w) n by,
+        ))
 
     -- the time over the whole route
     end-to-end :

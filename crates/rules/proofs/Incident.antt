@@ -18,6 +18,7 @@ use Rattle.rules.specs.Replies.{Reply, granted, refused, test, each}
 use Rattle.rules.specs.Table.{View, viewOf, hyperOf, wiresOf, channelsOf, wireAt, codeOf, rateOf, propOf, roomOf, channelAt, framingAt, payloadAt, periodAt, deadlineAt, hopsAt, routeAt, endOf, fillingOf}
 use Rattle.rules.specs.Reading.{headTests, wireTests, hopTests, divides, recordTests, channelTests, fillingTests, readingTests, reading}
 use Rattle.rules.specs.Judgement.{judge}
+use Rattle.rules.specs.Incident.{PrefixesRefused, ExtensionsRefused, LongerAlike, SameView, OneString}
 use Rattle.rules.proofs.Tests.{Through, Stops, Gate, through, stops, gate-through, lt-gate, between-gate}
 use Rattle.rules.proofs.ReadingLaws.{HeadPasses, Passes, divides-gate, hop-gate, fieldsTests, fields-gate, reading-passes, length-route, end-inside, length-told}
 
@@ -202,8 +203,7 @@ more-stops s l h rest = rw (lt-leb (length s) (up (endOf s) 8) (omega arith))
 fields-through : (s : List ℕ) → reading s ≡ granted [] → Through (fieldsTests s)
 fields-through s e = gate-through (fields-gate s) (reading-passes s e .fields)
 
--- Every proper prefix of a table that passes lacks a field.
-pub prefix-refused : (s : List ℕ) → reading s ≡ granted [] → (k : ℕ) → k < length s → reading (take k s) ≡ refused 1 0
+pub prefix-refused : PrefixesRefused
 unfolding reading readingTests
 prefix-refused s e k l =
     elim (fields-alike s k (omega arith)) [
@@ -212,8 +212,7 @@ prefix-refused s e k l =
       | lack q b ↦ b _
     ]
 
--- A table that passes, with anything behind it, has a further byte.
-pub extension-refused : (s t : List ℕ) → reading s ≡ granted [] → 1 ≤ length t → reading (s ++ t) ≡ refused 11 0
+pub extension-refused : ExtensionsRefused
 unfolding reading readingTests
 extension-refused s t e l =
     let n : length (s ++ t) ≡ length s + length t = length-append s t in
@@ -250,24 +249,11 @@ longer-reading s l rest rest' =
       | lack q b ↦ absurd (omega arith)
     ]
 
-pub longer-alike : (s : List ℕ) → suc tableLongest ≤ length s → (lent : ℕ) → judge s lent ≡ judge (take (suc tableLongest) s) lent
+pub longer-alike : LongerAlike
 unfolding judge
 longer-alike s l lent = longer-reading s l _ _
 
 -- ---- no two tables have the same view
-
-pub record SameView (a b : View) : Type 0 where
-  pub hyper : a .hyper ≡ b .hyper
-  pub wires : a .wires ≡ b .wires
-  pub channels : a .channels ≡ b .channels
-  pub rate : (w : ℕ) → w < a .wires → a .rate w ≡ b .rate w
-  pub prop : (w : ℕ) → w < a .wires → a .prop w ≡ b .prop w
-  pub room : (w : ℕ) → w < a .wires → a .room w ≡ b .room w
-  pub framing : (k : ℕ) → k < a .channels → a .framing k ≡ b .framing k
-  pub payload : (k : ℕ) → k < a .channels → a .payload k ≡ b .payload k
-  pub period : (k : ℕ) → k < a .channels → a .period k ≡ b .period k
-  pub deadline : (k : ℕ) → k < a .channels → a .deadline k ≡ b .deadline k
-  pub route : (k : ℕ) → k < a .channels → a .route k ≡ b .route k
 
 -- the code that a rate has
 rate-code : (c : ℕ) → c < length rates → getD rates c 0 / 10 - 8 * (getD rates c 0 / 100) ≡ c
@@ -363,6 +349,5 @@ module _ (s t : List ℕ) where
         bits-eq s t a b n (λ i l.
         agree-field (endOf s) (8 * length s - endOf s) (ended .1) fill i (omega (arith, end-inside s (p .fields))))
 
-pub unambiguous : (s t : List ℕ) → Bytes s → Bytes t → reading s ≡ granted [] → reading t ≡ granted []
-    → SameView (viewOf s) (viewOf t) → s ≡ t
-unambiguous s t a b p q e = same-string s t (reading-passes s p) (reading-passes t q) e a b
+pub one-string : OneString
+one-string s t a b p q e = same-string s t (reading-passes s p) (reading-passes t q) e a b

@@ -2,6 +2,7 @@ pub mod AcceptedSheet
 pub mod Asking
 pub mod Cases
 pub mod Columns
+pub mod Complete
 pub mod Delays
 pub mod Figures
 pub mod Fits
@@ -15,6 +16,7 @@ pub mod Orders
 pub mod Played
 pub mod Prices
 pub mod Promised
+pub mod ReadBack
 pub mod ReadingLaws
 pub mod Replies
 pub mod Routes

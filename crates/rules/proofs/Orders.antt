@@ -1,14 +1,16 @@
--- "In any order" is exactly equality of counts.
+-- "In any order" is exactly equality of counts; "among" is exactly counts that are no larger.
 use mathlib.Core.Path.{_≡_, refl}
 use mathlib.Core.Bool.{Bool, true, false, _&&_}
 use mathlib.Core.Logic.{_⊎_, inl, inr}
-use mathlib.Core.List.{List, [], _∷_}
-use Prim.Native.Nat.{ℕ, _+_, _<_}
+use mathlib.Core.List.{List, [], _∷_, _++_}
+use Prim.Native.Nat.{ℕ, _+_, _≤_, _<_}
 use native.Mathlib.Omega.{arith}
 use lib.Dec.{eqb}
 use borrow.Author.Tests.{eqb-true, eq-eqb}
-use Rattle.rules.specs.Words.{total, only}
+use Rattle.rules.specs.Words.{total, gathered, only}
 use Rattle.rules.specs.Machine.{Frame, Put, here, later, AnyOrder, none, more}
+use Rattle.rules.specs.Promise.{Among}
+use Rattle.rules.proofs.Sums.{sum-grows, total-append, total-gathered}
 
 -- the two frames are the same
 abbrev pub same : Frame → Frame → Bool
@@ -65,3 +67,35 @@ any-order-complete [] (y ∷ ys) h = absurd (omega (arith, rw (same-self y) at (
 any-order-complete (x ∷ xs) zs h =
     let out = taken x zs (omega (arith, rw (same-self x) at (h x))) in
     more (any-order-complete xs (out .0) (λ f. omega (arith, h f, put-total (λ (y : Frame). only (same f y) 1) (out .1)))) (out .1)
+
+pub order-self : (xs : List Frame) → AnyOrder xs xs
+order-self [] = none
+order-self (x ∷ xs) = more (order-self xs) here
+
+among-total : (g : Frame → ℕ) (xs ys : List Frame) → Among xs ys → total g xs ≤ total g ys
+among-total g xs ys a = omega (arith, any-order-total g (a .1), total-append g xs (a .0))
+
+-- among what a stream brings before a slot, so among what it brings before a later one
+pub among-before :
+    (xs : List Frame) (stream : ℕ → List Frame) (a n : ℕ) → Among xs (gathered stream a) → a ≤ n →
+    (f : Frame) → count f xs ≤ count f (gathered stream n)
+among-before xs stream a n within l f =
+    let one : Frame → ℕ = λ x. only (same f x) 1 in
+    omega (
+      arith,
+      among-total one xs (gathered stream a) within,
+      total-gathered one stream a,
+      total-gathered one stream n,
+      sum-grows (λ (i : ℕ). total one (stream i)) a n l,
+    )
+
+among-more : (x : Frame) (xs ys zs : List Frame) → Among xs ys → Put x ys zs → Among (x ∷ xs) zs
+among-more x xs ys zs a p = (a .0, more (a .1) p)
+
+pub among-complete : (xs ys : List Frame) → ((f : Frame) → count f xs ≤ count f ys) → Among xs ys
+unfolding total
+among-complete [] ys h = (ys, order-self ys)
+among-complete (x ∷ xs) zs h =
+    let out = taken x zs (omega (arith, rw (same-self x) at (h x))) in
+    among-more x xs (out .0) zs
+    (among-complete xs (out .0) (λ f. omega (arith, h f, put-total (λ (y : Frame). only (same f y) 1) (out .1)))) (out .1)

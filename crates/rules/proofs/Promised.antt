@@ -2,11 +2,12 @@
 use mathlib.Core.Path.{refl}
 use native.Mathlib.Omega.{arith}
 use Rattle.rules.specs.Table.{View, viewOf}
+use Rattle.rules.specs.Bounds.{backlog, delay, endToEnd}
 use Rattle.rules.specs.Machine.{Releases, Run, Allowed, nobody}
 use Rattle.rules.specs.Promise.{Promise, PromiseAlone}
 use Rattle.rules.proofs.JudgementLaws.{judge-accepted}
 use Rattle.rules.proofs.AcceptedSheet.{accepted-answers}
-use Rattle.rules.proofs.Figures.{backlog-holds, delivered-whole}
+use Rattle.rules.proofs.Figures.{backlog-holds, left-within, delivered-whole}
 
 pub promise : Promise
 promise s lent length e released keeps held run allowed =
@@ -16,10 +17,22 @@ promise s lent length e released keeps held run allowed =
     let bounded = accepted .0 .bounded in
     let answers = accepted-answers s lent length e .0 in
     record {
-      backlogs = λ w l. rw (answers .wire w l) (λ slot. omega (arith, backlog-holds t sound (bounded .loads) released keeps held run allowed w slot l));
-      delays = λ k l.
-          rw (answers .channel k l)
-          (omega (arith, bounded .ends k l), λ r slot due. delivered-whole t sound (bounded .loads) released keeps held run allowed k r slot l (omega arith));
+      wires = λ w l.
+          record {
+            backlog = backlog t w;
+            delay = delay t w;
+            asked = answers .wire w l;
+            backlog-most = λ slot. omega (arith, backlog-holds t sound (bounded .loads) released keeps held run allowed w slot l);
+            within-room = omega (arith, bounded .backlogs w l);
+            left = λ slot. left-within t sound (bounded .loads) released keeps held run allowed w slot _ l (omega arith);
+          };
+      channels = λ k l.
+          record {
+            delay = endToEnd t k;
+            asked = answers .channel k l;
+            within-deadline = omega (arith, bounded .ends k l);
+            whole = λ r slot due. delivered-whole t sound (bounded .loads) released keeps held run allowed k r slot l (omega arith);
+          };
     }
 
 -- Nobody holding is allowed.

@@ -19,10 +19,10 @@ use Rattle.rules.specs.Reading.{headTests, wireTests, hopTests, recordTe
 use Rattle.rules.specs.Bounds.{loadOf, load, along, jitter, K, shareOf, backlogAfter, delayAfter, delaysBelow, backlog, delay, endToEnd}
 use Rattle.rules.specs.Sheet.{figuresAt, endAt, sheetLength}
 use Rattle.rules.specs.Judgement.{loadTest, roomTest, deadlineTest, boundsTests, judge}
-use Rattle.rules.specs.Machine.{Frame, Releases, Keeps, message, ofChannel, bornIn, Gone, reaching, dueFrom, due, AnyOrder, none, more, here, sent, kept, bytes, Run, nobody, unsent, delivered, Order, Choice, arrivals, holding, step, played}
+use Rattle.rules.specs.Machine.{Frame, Releases, Keeps, message, ofChannel, bornIn, Gone, reaching, dueFrom, due, AnyOrder, sent, kept, bytes, Run, nobody, unsent, delivered, Order, Choice, arrivals, holding, step, played}
 use Rattle.rules.specs.Cases.{caseA, caseB}
 use Rattle.rules.proofs.Sums.{total-append}
-use Rattle.rules.proofs.Orders.{same, any-order-complete}
+use Rattle.rules.proofs.Orders.{same, order-self, any-order-complete}
 use Rattle.rules.proofs.Played.{heldAt, played-run, alone-run}
 
 only-most : (b : Bool) (n : ℕ) → only b n ≤ n
@@ -65,8 +65,7 @@ abbrev pub in-turn : Order
 in-turn slot w fs = fs
 
 pub in-turn-any : (slot w : ℕ) (fs : List Frame) → AnyOrder fs (in-turn slot w fs)
-in-turn-any slot w [] = none
-in-turn-any slot w (f ∷ fs) = more (in-turn-any slot w fs) here
+in-turn-any slot w fs = order-self fs
 
 unfoldable pub backwards : List Frame → List Frame
 backwards [] = []

@@ -13,4 +13,5 @@ pub mod Sheet
 pub mod Judgement
 pub mod Machine
 pub mod Cases
+pub mod Incident
 pub mod Promise
