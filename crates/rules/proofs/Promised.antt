@@ -24,7 +24,7 @@ promise s lent length e released keeps held run allowed =
             asked = answers .wire w l;
             backlog-most = λ slot. omega (arith, backlog-holds t sound (bounded .loads) released keeps held run allowed w slot l);
             within-room = omega (arith, bounded .backlogs w l);
-            left = λ slot. left-within t sound (bounded .loads) released keeps held run allowed w slot _ l (omega arith);
+            left = λ slot. left-within t sound (bounded .loads) released keeps held run allowed w _ _ l (omega arith);
           };
       channels = λ k l.
           record {

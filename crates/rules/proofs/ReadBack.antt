@@ -118,14 +118,14 @@ same-view-built a b hyper wires channels wire channel =
       hyper = hyper;
       wires = wires;
       channels = channels;
-      rate = λ w l. wire w l .0;
-      prop = λ w l. wire w l .1;
-      room = λ w l. wire w l .2;
-      framing = λ k l. channel k l .0;
-      payload = λ k l. channel k l .1;
-      period = λ k l. channel k l .2;
-      deadline = λ k l. channel k l .3;
-      route = λ k l. channel k l .4;
+      rate = λ w l. wire w (omega arith) .0;
+      prop = λ w l. wire w (omega arith) .1;
+      room = λ w l. wire w (omega arith) .2;
+      framing = λ k l. channel k (omega arith) .0;
+      payload = λ k l. channel k (omega arith) .1;
+      period = λ k l. channel k (omega arith) .2;
+      deadline = λ k l. channel k (omega arith) .3;
+      route = λ k l. channel k (omega arith) .4;
     }
 
 pub one-string-read :
@@ -148,7 +148,7 @@ pub no-sheet-read :
     (i : ℕ) (values : List ℕ) → ¬ (askWire (buffer s lent) i ≡ granted values) × ¬ (askChannel (buffer s lent) i ≡ granted values)
 no-sheet-read h s lent number place e i values =
     elim (decLt lent 2) [
-      | yes l ↦ (let no-figure = h s lent number place e .0 l i in (never (no-figure .0), never (no-figure .1)))
+      | yes l ↦ (let no-figure = h s lent number place e .0 (omega arith) i in (never (no-figure .0), never (no-figure .1)))
       | no l ↦ (let no-figure = h s lent number place e .1 (omega arith) i in (never (no-figure .0), never (no-figure .1)))
     ]
   where

@@ -1,7 +1,8 @@
 -- The promise is not empty: releases that keep their declaration without end, and runs that reach the figures, with the
 -- office machines' holds and without.
-use mathlib.Core.Path.{_≡_, refl}
-use mathlib.Core.Bool.{Bool, true, false}
+use mathlib.Core.Path.{_≡_, refl, ap, _∙_}
+use mathlib.Core.Bool.{Bool, true, false, cond}
+use mathlib.Core.Logic.{_⊎_, inl, inr}
 use mathlib.Core.List.{List, [], _∷_, _++_, map}
 use Prim.Native.Nat.{ℕ, suc, _+_, _-_, _*_, _/_, _%_, _≤_, _<_}
 use native.Mathlib.Nat.{div-add-mod', mul-le-mul-right, mul-mod-left, suc-mul}
@@ -236,6 +237,83 @@ two-part = refl
 pub two-whole : delivered (viewOf twoFrames) (runTwo .gone) 0 0 41 ≡ message (viewOf twoFrames) (periodic (viewOf twoFrames)) 0 0
 unfolding definitions
 two-whole = refl
+
+-- Three hops, with IP and UDP: H 20; three wires of rate 100, propagation 1, 2 and 0; a channel of framing 1, payload 1,465,
+-- period 20, route 0, 1, 2. Nobody holds.
+abbrev pub threeHops : List ℕ
+threeHops = 0x00 ∷ 0x00 ∷ 0x14 ∷ 0x06 ∷ 0x03 ∷ 0x00 ∷ 0x20 ∷ 0x02 ∷ 0x4f ∷ 0x50 ∷ 0x04 ∷ 0x00 ∷ 0x37 ∷ 0x29 ∷ 0x00 ∷ 0x00 ∷ 0x06 ∷ 0x3b ∷ 0xb0 ∷ 0x5b ∷ 0x90 ∷ 0x00 ∷ 0x01 ∷ 0x40 ∷ 0x00 ∷ 0x0f ∷ 0xa3 ∷ 0x00 ∷ 0x10 ∷ 0x80 ∷ []
+
+-- Not periodic, and once less than is declared: 10 bytes in slot 1, the whole payload 23 slots later, and nothing more.
+unfoldable pub sparse : Releases
+sparse k r = cond (eqb r 1) 10 (cond (eqb r 24) 1465 0)
+
+sparse-slots : (k r : ℕ) → 0 < sparse k r → (r ≡ 1) ⊎ (r ≡ 24)
+unfolding sparse
+sparse-slots k r h =
+    elim (ℕ-discrete r 1) [
+      | yes first ↦ inl first
+      | no n ↦ elim (ℕ-discrete r 24) [
+        | yes second ↦ inr second
+        | no m ↦ absurd (omega (arith, rw (ne-eqb r 1 n, ne-eqb r 24 m) at h))
+      ]
+    ]
+
+sparse-most : (k r : ℕ) → sparse k r ≤ 1465
+unfolding sparse
+sparse-most k r =
+    elim (ℕ-discrete r 1) [
+      | yes first ↦ rw (eq-eqb r 1 first) (omega arith)
+      | no n ↦ elim (ℕ-discrete r 24) [
+        | yes second ↦ rw (ne-eqb r 1 n, eq-eqb r 24 second) (omega arith)
+        | no m ↦ rw (ne-eqb r 1 n, ne-eqb r 24 m) (omega arith)
+      ]
+    ]
+
+three-channel : (viewOf threeHops .channels ≡ 1) × (viewOf threeHops .payload 0 ≡ 1465) × (viewOf threeHops .period 0 ≡ 20)
+unfolding definitions
+three-channel = (refl, refl, refl)
+
+sole : (k : ℕ) → k < viewOf threeHops .channels → k ≡ 0
+sole k l = omega (arith, three-channel .0)
+
+pub sparse-keeps : Keeps (viewOf threeHops) sparse
+sparse-keeps =
+    record {
+      declared = λ k r l. omega (arith, sparse-most k r, ap (viewOf threeHops .payload) (sole k l), three-channel .1);
+      apart = λ k r later l less x y.
+          (let period : viewOf threeHops .period k ≡ 20 = ap (viewOf threeHops .period) (sole k l) ∙ three-channel .2 in
+          elim (sparse-slots k r x) [
+            | inl first ↦ elim (sparse-slots k later y) [ inl again ↦ absurd (omega arith) | inr second ↦ omega arith ]
+            | inr first ↦ elim (sparse-slots k later y) [ inl again ↦ absurd (omega arith) | inr second ↦ absurd (omega arith) ]
+          ]);
+    }
+
+abbrev pub runThree : Run (viewOf threeHops) sparse nobody
+runThree = alone-run (viewOf threeHops) sparse in-turn in-turn-any
+
+pub three-accepted : judge threeHops 24 ≡ granted (24 ∷ [])
+unfolding definitions
+three-accepted = refl
+
+-- the short message, over three wires
+pub three-short :
+    (delivered (viewOf threeHops) (runThree .gone) 0 1 6 ≡ [])
+    × (delivered (viewOf threeHops) (runThree .gone) 0 1 7 ≡ record { channel = 0; born = 1; size = smallFrame } ∷ [])
+unfolding definitions sparse
+three-short = (refl, refl)
+
+-- the whole one, cut as IP and UDP are
+pub three-message :
+    message (viewOf threeHops) sparse 0 24
+    ≡ record { channel = 0; born = 24; size = fullFrame } ∷ record { channel = 0; born = 24; size = smallFrame } ∷ []
+unfolding definitions sparse
+three-message = refl
+
+pub three-whole :
+    (delivered (viewOf threeHops) (runThree .gone) 0 24 75 ≡ record { channel = 0; born = 24; size = fullFrame } ∷ [])
+    × (delivered (viewOf threeHops) (runThree .gone) 0 24 76 ≡ message (viewOf threeHops) sparse 0 24)
+unfolding definitions sparse
+three-whole = (refl, refl)
 
 -- Three thirds of a wire are its whole load: case B.
 pub b-load : load (viewOf caseB) 0 ≡ viewOf caseB .rate 0 * viewOf caseB .hyper
