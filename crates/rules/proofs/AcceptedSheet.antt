@@ -18,7 +18,7 @@ accepted-answers s lent length e =
     let accepted = judge-accepted s lent length e in
     let bounded = accepted .0 .bounded in
     let fits = fits-view s (accepted .0 .sound) (bounded .backlogs) (bounded .ends) in
-    (accepted-asked s lent length e (accepted .1) fits, accepted-whole s lent length e (accepted .1) fits)
+    (accepted-asked s lent length e (accepted .1) fits, λ l. accepted-whole s lent length e (accepted .1) fits (omega arith))
 
 pub accepted-longest : (s : List ℕ) (lent length : ℕ) → judge s lent ≡ granted (length ∷ []) → length ≤ sheetLongest
 accepted-longest s lent length e =

@@ -87,7 +87,8 @@ ask-filled (suc k) l =
     rw (le-leb 2 (suc (length (replicate {A = ℕ} k 255))) (omega (arith, length-replicate {A = ℕ} k 255))))
 
 pub no-sheet : (lent : ℕ) → NoSheet lent (replicate lent 255)
-no-sheet lent = (λ l. ask-short (replicate lent 255) (rw length-replicate l), ask-filled lent)
+no-sheet lent =
+    (λ l. ask-short (replicate lent 255) (rw length-replicate (omega arith)), λ l. ask-filled lent (omega arith))
 
 -- ---- the lent buffer after a judgement
 

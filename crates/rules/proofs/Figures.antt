@@ -42,7 +42,7 @@ module _ (t : View) (sound : Sound t) (released : Releases) (keeps : Keeps t rel
       omega (
         arith,
         message-size t released k r,
-        price-grows (t .framing k) (sound .framing-most k lk) (released k r) (t .payload k) (keeps .declared k r lk),
+        price-grows (t .framing k) (sound .framing-most k lk) (released k r) (t .payload k) (omega (arith, keeps .declared k r lk)),
       )
 
   some-released : (r : ℕ) → 0 < total sizeOf (message t released k r) → 0 < released k r

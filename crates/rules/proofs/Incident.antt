@@ -323,8 +323,8 @@ module _ (s t : List ℕ) where
     agree-wires (suc w) l =
         let m : w < wiresOf t = rw (← (e .wires)) l in
         agree-wire w
-        (same-code w (p .fields .wire w l .code-lt) (q .fields .wire w m .code-lt) (e .rate w l))
-        (e .prop w l) (e .room w l)
+        (same-code w (p .fields .wire w l .code-lt) (q .fields .wire w m .code-lt) (e .rate w (omega arith)))
+        (e .prop w (omega arith)) (e .room w (omega arith))
         (agree-wires w (omega arith))
 
     agree-channels : (c : ℕ) → c ≤ channelsOf s → (channelAt s c ≡ channelAt t c) × Agree s t (channelAt s c)
@@ -334,7 +334,7 @@ module _ (s t : List ℕ) where
         let before = agree-channels c (omega arith) in
         let here : SameRecord s t (channelAt s c) (channelAt s c)
         = subst (λ (at : ℕ). SameRecord s t (channelAt s c) at) (sym (before .0))
-        (e .framing c l, e .payload c l, e .period c l, e .deadline c l, e .route c l) in
+        (e .framing c (omega arith), e .payload c (omega arith), e .period c (omega arith), e .deadline c (omega arith), e .route c (omega arith)) in
         let after = agree-record (channelAt s c) here (before .1) in
         (ap₂ (λ (at hops : ℕ). at + fixedBits + hopBits * hops) (before .0) (after .0 ∙ ap (λ (at : ℕ). hopsAt t at) (before .0)), after .1)
 

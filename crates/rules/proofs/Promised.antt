@@ -1,5 +1,6 @@
 -- The promise holds: from acceptance to the figures, and from the figures to what asking the sheet replies.
 use mathlib.Core.Path.{refl}
+use Prim.Native.Nat.{_<_}
 use native.Mathlib.Omega.{arith}
 use Rattle.rules.specs.Table.{View, viewOf}
 use Rattle.rules.specs.Bounds.{backlog, delay, endToEnd}
@@ -18,21 +19,23 @@ promise s lent length e released keeps held run allowed =
     let answers = accepted-answers s lent length e .0 in
     record {
       wires = λ w l.
+          (let lw : w < t .wires = omega arith in
           record {
             backlog = backlog t w;
             delay = delay t w;
-            asked = answers .wire w l;
-            backlog-most = λ slot. omega (arith, backlog-holds t sound (bounded .loads) released keeps held run allowed w slot l);
-            within-room = omega (arith, bounded .backlogs w l);
-            left = λ slot. left-within t sound (bounded .loads) released keeps held run allowed w _ _ l (omega arith);
-          };
+            asked = answers .wire w lw;
+            backlog-most = λ slot. omega (arith, backlog-holds t sound (bounded .loads) released keeps held run allowed w slot lw);
+            within-room = omega (arith, bounded .backlogs w lw);
+            left = λ slot. left-within t sound (bounded .loads) released keeps held run allowed w _ _ lw (omega arith);
+          });
       channels = λ k l.
+          (let lk : k < t .channels = omega arith in
           record {
             delay = endToEnd t k;
-            asked = answers .channel k l;
-            within-deadline = omega (arith, bounded .ends k l);
-            whole = λ r slot due. delivered-whole t sound (bounded .loads) released keeps held run allowed k r slot l (omega arith);
-          };
+            asked = answers .channel k lk;
+            within-deadline = omega (arith, bounded .ends k lk);
+            whole = λ r slot due. delivered-whole t sound (bounded .loads) released keeps held run allowed k r slot lk (omega arith);
+          });
     }
 
 -- Nobody holding is allowed.
