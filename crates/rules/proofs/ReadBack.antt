@@ -172,14 +172,13 @@ others-read h s lent len e n more =
 
 same-figures : (a b : Figures) → Same a b → a ≡ b
 same-figures a b e =
-    λ i. record {
-      reply = e .0 i;
-      loads = e .1 i;
-      backlogs = e .2 i;
-      delays = e .3 i;
-      ends = e .4 i;
-      buffer = e .5 i;
-    }
+    let reply : a .reply ≡ b .reply = e .0 in
+    let loads : a .loads ≡ b .loads = e .1 in
+    let backlogs : a .backlogs ≡ b .backlogs = e .2 in
+    let delays : a .delays ≡ b .delays = e .3 in
+    let ends : a .ends ≡ b .ends = e .4 in
+    let bytes : a .buffer ≡ b .buffer = e .5 in
+    λ i. record { reply = reply i; loads = loads i; backlogs = backlogs i; delays = delays i; ends = ends i; buffer = bytes i }
 
 figures-read : (cs : List Case) → Hold cs → map (λ (c : Case). evaluate (c .question)) cs ≡ map (λ (c : Case). c .figures) cs
 figures-read [] all = refl
