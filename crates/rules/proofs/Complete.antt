@@ -1,15 +1,20 @@
 -- The relation has no run that the step function does not play: an allowed run is the played one, with the order in which its
--- frames came and with its holds for choices.
+-- frames came, which is an order of what is due there, and with its holds for choices.
 use mathlib.Core.Path.{_≡_, refl, sym, ap, ap₂, _∙_}
+use mathlib.Core.Bool.{true}
+use mathlib.Core.Logic.{inl, inr}
 use mathlib.Core.List.{List, [], _∷_}
 use Prim.Native.Nat.{ℕ, zero, suc, _-_, _≤_, _<_}
 use native.Mathlib.Omega.{arith}
 use borrow.Author.Tests.{le-leb}
-use Rattle.rules.specs.Words.{cut}
-use Rattle.rules.specs.Table.{View}
+use Rattle.rules.specs.Words.{cut, has}
+use Rattle.rules.specs.Table.{View, source}
 use Rattle.rules.specs.Bounds.{K}
-use Rattle.rules.specs.Machine.{Frame, Waiting, Releases, sent, kept, joined, Holding, sending, Run, Allowed, Order, Choice, queueIn, heldIn, arrivals, holding, played}
-use Rattle.rules.proofs.Played.{goneAt, arrivedAt, heldAt, queue-next, gone-now, held-now, empty-first}
+use Rattle.rules.specs.Machine.{Frame, Waiting, Releases, Gone, ofChannel, dueFrom, due, AnyOrder, joined, Holding, Run, Allowed, Order, Choice, queueIn, heldIn, arrivals, holding, played}
+use Rattle.rules.proofs.Sound.{Sound}
+use Rattle.rules.proofs.Orders.{bool-cases}
+use Rattle.rules.proofs.Routes.{nowhere-off, climbs-below, follows}
+use Rattle.rules.proofs.Played.{gathered-same, reaching-same, goneAt, arrivedAt, heldAt, queue-next, gone-now, held-now, empty-first}
 
 -- what is held follows from the three conditions
 holding-is :
@@ -23,6 +28,34 @@ holding-is (x ∷ queue) arrived chosen left held idle start on = on (λ e. let 
 
 cut-small : (x most : ℕ) → x ≤ most → cut x most ≡ x
 cut-small x most l = rw (le-leb x most l) refl
+
+-- What is due reads only what is gone from the wires of the table, where every route stays on them.
+module _
+    (t : View) (sound : Sound t) (released : Releases) (one other : Gone)
+    (agree : (v earlier : ℕ) → v < t .wires → one v earlier ≡ other v earlier) (w slot : ℕ)
+  where
+    from-below :
+        (k : ℕ) → k < t .channels →
+        dueFrom (source (t .route k) w) t released one slot k ≡ dueFrom (source (t .route k) w) t released other slot k
+    unfolding dueFrom
+    from-below k lk =
+        let xs = t .route k in
+        let c = sound .climbs k lk in
+        elim (bool-cases (has w xs)) [
+          | inr off ↦ rw (nowhere-off w xs off) refl
+          | inl there ↦
+              elim (follows (t .wires) 0 w xs c there) [
+                | inl b ↦ rw (b .from) refl
+                | inr f ↦
+                    (let v = f .0 in
+                    let lv = climbs-below (t .wires) 0 v xs c (f .1 .there) in
+                    rw (f .1 .from) (ap (ofChannel k) (reaching-same t one other slot v (λ earlier l. agree v earlier lv))))
+              ]
+        ]
+
+    due-below : due t released one w slot ≡ due t released other w slot
+    unfolding due
+    due-below = gathered-same _ _ (t .channels) from-below
 
 module _ {t : View} {released : Releases} {held : Holding} (run : Run t released held) where
   -- the order of its arrivals, and its holds, as an adversary's
@@ -78,3 +111,11 @@ module _ {t : View} {released : Releases} {held : Holding} (run : Run t released
           run .sends w slot l
           ∙ sym (gone-now t released orderOf choiceOf w slot l ∙ rw (came-as w slot, both .queue, both .held-too) refl),
         )
+
+  -- and that order is an order of what is due there, as the step function asks of it
+  pub every-order-due :
+      Allowed run → Sound t → (w slot : ℕ) → w < t .wires →
+      AnyOrder (due t released (goneAt t released orderOf choiceOf) w slot) (arrivedAt t released orderOf choiceOf w slot)
+  every-order-due allowed sound w slot l =
+      rw (came-as w slot, ← due-below t sound released (run .gone) (goneAt t released orderOf choiceOf) (λ v earlier lv. every-run-played allowed v lv earlier .2) w slot)
+      (run .any-order w slot l)

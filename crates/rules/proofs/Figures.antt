@@ -16,7 +16,7 @@ use Rattle.rules.specs.Bounds.{cost, times, on, carries, K, loadOf, load
 use Rattle.rules.specs.Machine.{Frame, Releases, Keeps, Holding, Run, Allowed, AnyOrder, message, sending, bytes, unsent, Gone, reaching, delivered, ofChannel}
 use Rattle.rules.specs.Promise.{Among}
 use Rattle.rules.proofs.Sound.{Sound}
-use Rattle.rules.proofs.Sums.{sum-le, sum-same, sum-add, sum-scale, sum-none, sum-alone, sum-grows, total-gathered, total-empty, some-none}
+use Rattle.rules.proofs.Sums.{sum-le, sum-same, sum-add, sum-scale, sum-none, sum-alone, sum-grows, sum-cut, total-gathered, total-empty, some-none}
 use Rattle.rules.proofs.Orders.{bool-cases, same, any-order-complete, among-complete}
 use Rattle.rules.proofs.Prices.{frames-price, price-grows}
 use Rattle.rules.proofs.Routes.{nowhere-off, last-there, last-total, route-same, along-add, climbs-below}
@@ -271,6 +271,21 @@ module _
           total-gathered one (run .gone w) n,
           left-total w slot l one,
           sum-grows (λ (i : ℕ). total one (run .gone w i)) (slot + delay t w) n by,
+        ))
+
+    -- So the frames that reach it in a slot are among those that leave it in that slot and the delay - 1 slots after.
+    pub left-in-time :
+        (w slot : ℕ) → w < t .wires → Among (run .arrived w slot) (gathered (λ later. run .gone w (slot + later)) (delay t w))
+    unfolding sum
+    left-in-time w slot l =
+        among-complete (run .arrived w slot) (gathered (λ later. run .gone w (slot + later)) (delay t w)) (λ f.
+        let one : Frame → ℕ = λ x. only (same f x) 1 in
+        omega (
+          arith,
+          total-gathered one (λ later. run .gone w (slot + later)) (delay t w),
+          sum-cut (λ (s : ℕ). total one (run .gone w s)) slot (delay t w),
+          wired w l .0 .fair one slot,
+          left-total w slot l one,
         ))
 
     -- the time over the whole route

@@ -15,37 +15,38 @@ use Rattle.rules.specs.Bounds.{K}
 use Rattle.rules.specs.Machine.{Frame, Waiting, whole, Releases, Gone, ofChannel, reaching, dueFrom, due, AnyOrder, sent, kept, joined, Holding, sending, Run, Allowed, nobody, Order, Choice, queueIn, heldIn, goneIn, arrivals, holding, step, played}
 use Rattle.rules.proofs.Columns.{length-listed, getD-listed}
 
-gathered-same : {A : Type 0} (f g : ℕ → List A) (n : ℕ) → ((i : ℕ) → f i ≡ g i) → gathered f n ≡ gathered g n
+pub gathered-same : {A : Type 0} (f g : ℕ → List A) (n : ℕ) → ((i : ℕ) → i < n → f i ≡ g i) → gathered f n ≡ gathered g n
 unfolding gathered
 gathered-same f g zero e = refl
-gathered-same f g (suc n) e = rw (gathered-same f g n e, e n) refl
+gathered-same f g (suc n) e = rw (gathered-same f g n (λ i l. e i (omega arith)), e n (omega arith)) refl
 
 -- What is due in a slot reads only what was gone before it.
+module _ (t : View) (one other : Gone) (slot v : ℕ) (agree : (earlier : ℕ) → earlier < slot → one v earlier ≡ other v earlier) where
+  ago : (later : ℕ) → 0 < later →
+      cond (leb later slot) (one v (slot - later)) [] ≡ cond (leb later slot) (other v (slot - later)) []
+  ago later some =
+      elim (decLe later slot) [
+        | yes l ↦ rw (le-leb later slot l) (agree (slot - later) (omega arith))
+        | no n ↦ rw (lt-leb later slot (omega arith)) refl
+      ]
+
+  pub reaching-same : reaching t one v slot ≡ reaching t other v slot
+  unfolding reaching
+  reaching-same = ago _ (omega arith)
+
 module _
     (t : View) (released : Releases) (one other : Gone) (slot : ℕ)
     (agree : (v earlier : ℕ) → earlier < slot → one v earlier ≡ other v earlier)
   where
-    ago : (later v : ℕ) → 0 < later →
-        cond (leb later slot) (one v (slot - later)) [] ≡ cond (leb later slot) (other v (slot - later)) []
-    ago later v some =
-        elim (decLe later slot) [
-          | yes l ↦ rw (le-leb later slot l) (agree v (slot - later) (omega arith))
-          | no n ↦ rw (lt-leb later slot (omega arith)) refl
-        ]
-
-    reaching-same : (v : ℕ) → reaching t one v slot ≡ reaching t other v slot
-    unfolding reaching
-    reaching-same v = ago _ v (omega arith)
-
     from-same : (src : Source) (k : ℕ) → dueFrom src t released one slot k ≡ dueFrom src t released other slot k
     unfolding dueFrom
     from-same nowhere k = refl
     from-same release k = refl
-    from-same (wire v) k = ap (ofChannel k) (reaching-same v)
+    from-same (wire v) k = ap (ofChannel k) (reaching-same t one other slot v (agree v))
 
     due-same : (w : ℕ) → due t released one w slot ≡ due t released other w slot
     unfolding due
-    due-same w = gathered-same _ _ (t .channels) (λ k. from-same (source (t .route k) w) k)
+    due-same w = gathered-same _ _ (t .channels) (λ k l. from-same (source (t .route k) w) k)
 
 -- a choice is cut to K, and what is left of a hold is no more
 cut-most : (x most : ℕ) → cut x most ≤ most

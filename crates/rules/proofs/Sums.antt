@@ -3,9 +3,10 @@ use mathlib.Core.Path.{_≡_, refl, ap, sym}
 use mathlib.Core.Bool.{Bool, true, false, _||_}
 use mathlib.Core.List.{List, [], _∷_, _++_, map}
 use Prim.Native.Nat.{ℕ, zero, suc, _+_, _*_, _≤_, _<_}
+use native.Mathlib.Nat.{add-zero, add-suc}
 use native.Mathlib.Decide.{decLe, ℕ-discrete}
 use native.Mathlib.Omega.{arith}
-use Rattle.rules.specs.Words.{sum, total, gathered, some}
+use Rattle.rules.specs.Words.{sum, total, gathered, begins, some}
 
 -- ascending: what holds of a number where it holds of all below, holds
 pub ascend : (P : ℕ → Type 0) → ((w : ℕ) → ((v : ℕ) → v < w → P v) → P w) → (w : ℕ) → P w
@@ -57,6 +58,12 @@ sum-grows f a (suc b) l =
       | no gt ↦ (let e : a ≡ suc b = omega arith in omega (arith, ap (λ (x : ℕ). sum f x) e))
     ]
 
+-- a sum to a + n, cut at a
+pub sum-cut : (f : ℕ → ℕ) (a n : ℕ) → sum f (a + n) ≡ sum f a + sum (λ i. f (a + i)) n
+unfolding sum
+sum-cut f a zero = omega (arith, ap (λ (x : ℕ). sum f x) (add-zero a))
+sum-cut f a (suc n) = omega (arith, sum-cut f a n, ap (λ (x : ℕ). sum f x) (add-suc a n))
+
 pub sum-has : (f : ℕ → ℕ) (n k : ℕ) → k < n → f k ≤ sum f n
 unfolding sum
 sum-has f n k l = omega (arith, sum-grows f (suc k) n l)
@@ -98,6 +105,11 @@ module _ (f : ℕ → Bool) where
   unfolding some
   none-some zero h = refl
   none-some (suc n) h = rw (none-some n (λ k l. h k (omega arith)), h n (omega arith)) refl
+
+-- no wire begins an empty route
+pub begins-none : (w : ℕ) → begins w [] ≡ false
+unfolding begins
+begins-none w = refl
 
 module _ {A : Type 0} where
   pub total-append : (g : A → ℕ) (xs ys : List A) → total g (xs ++ ys) ≡ total g xs + total g ys
