@@ -109,7 +109,7 @@ module _ {t : View} {released : Releases} {held : Holding} (run : Run t released
           sym (both .queue),
           sym (both .held-too),
           run .sends w slot l
-          ∙ sym (gone-now t released orderOf choiceOf w slot l ∙ rw (came-as w slot, both .queue, both .held-too) refl),
+              ∙ sym (gone-now t released orderOf choiceOf w slot l ∙ rw (came-as w slot, both .queue, both .held-too) refl),
         )
 
   -- and that order is an order of what is due there, as the step function asks of it
