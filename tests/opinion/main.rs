@@ -32,7 +32,7 @@ opinion machine [--seed S] [--tables N]
                          the slot machine driven by adversaries on tables with nothing to spare
 opinion bench [--seed S] [--repetitions N]
                          times of the face and of the baseline, and their ratio at three sizes
-opinion scripted         six small runs of the slot machine, slot by slot
+opinion scripted         eight small runs of the slot machine, slot by slot
 opinion faults           the faults that --break knows, one to a line
 Exit status: 0 agreed; 1 a disagreement or a figure exceeded, printed; 2 bad usage; 4 too few of a
 kind were compared, or wrong figures were left standing.

@@ -1,4 +1,4 @@
-//! Five scripted runs of the slot machine, slot by slot, as text: the same runs can be computed by
+//! Scripted runs of the slot machine, slot by slot, as text: the same runs can be computed by
 //! definitions elsewhere and compared line by line.
 
 use crate::generate::{plain_channel, Draft, DraftWire};
@@ -34,8 +34,15 @@ fn draft(hyperperiod: u64, wires: &[(u64, u64)], channels: &[(u64, u64, &[u64])]
     draft
 }
 
-fn scripts() -> [Script; 6] {
-    [two_frames(), ending_together(), shuffled(), two_rates(), later_wire(), full_wire()]
+/// The same, one of its channels with IP and UDP.
+fn with_udp(mut draft: Draft, channel: usize) -> Draft {
+    draft.channels[channel].framing = 1;
+    draft.tighten().expect("a sound table");
+    draft
+}
+
+fn scripts() -> [Script; 8] {
+    [two_frames(), ending_together(), shuffled(), two_rates(), later_wire(), full_wire(), three_hops(), two_framings()]
 }
 
 fn two_frames() -> Script {
@@ -100,6 +107,26 @@ fn full_wire() -> Script {
         releases: (0..34).map(|slot| (slot, 0, 50)).collect(),
         orders: &[],
         holds: &[(0, 0, 31)],
+    }
+}
+
+fn three_hops() -> Script {
+    Script {
+        name: "a channel over three wires, and another that it meets on the third; wires 1 and 2 held",
+        draft: draft(50, &[(2, 2), (2, 1), (2, 3)], &[(100, 50, &[0, 1, 2]), (60, 25, &[2])]),
+        releases: vec![(0, 0, 100), (1, 1, 60)],
+        orders: &[],
+        holds: &[(1, 2, 8), (4, 1, 2)],
+    }
+}
+
+fn two_framings() -> Script {
+    Script {
+        name: "a message with IP and UDP that plain would be one frame, and a plain one",
+        draft: with_udp(draft(40, &[(2, 2)], &[(1_465, 40, &[0]), (11, 20, &[0])]), 0),
+        releases: vec![(0, 0, 1_465), (3, 1, 11)],
+        orders: &[],
+        holds: &[(0, 0, 1)],
     }
 }
 
@@ -170,9 +197,10 @@ fn describe(table: &Table, figures: &opinion::Figures) -> Vec<String> {
         ));
     }
     for (number, channel) in table.channels.iter().enumerate() {
+        let framing = ["plain", "with IP and UDP"][channel.framing];
         let frames = machine::frames(channel.framing, channel.payload as u64);
         lines.push(format!(
-            "channel {number}: plain payload {} frames {frames:?} period {} route {:?} end to end {}",
+            "channel {number}: {framing} payload {} frames {frames:?} period {} route {:?} end to end {}",
             channel.payload, channel.period, channel.route, figures.ends[number]
         ));
     }

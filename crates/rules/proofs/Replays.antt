@@ -396,3 +396,70 @@ lines6 =
 replay6 : replay (viewOf table6) (releasedBy releases6) (chosenBy holds6) lines6 ≡ lines6
 unfolding definitions nothing lineOf linesFrom replay table6 releases6 holds6 lines6
 replay6 = refl
+
+-- A channel over three wires, and another that it meets on the third; wires 1 and 2 held.
+table7 : List ℕ
+table7 = 0x00 ∷ 0x00 ∷ 0x32 ∷ 0x06 ∷ 0x05 ∷ 0x00 ∷ 0x40 ∷ 0x01 ∷ 0x96 ∷ 0x50 ∷ 0x02 ∷ 0x00 ∷ 0x0e ∷ 0x6d ∷ 0x00 ∷ 0x60 ∷ 0x01 ∷ 0xb6 ∷ 0xc0 ∷ 0x06 ∷ 0x40 ∷ 0x00 ∷ 0x03 ∷ 0x20 ∷ 0x00 ∷ 0x05 ∷ 0xe3 ∷ 0x00 ∷ 0x10 ∷ 0x80 ∷ 0x07 ∷ 0x80 ∷ 0x00 ∷ 0x03 ∷ 0x20 ∷ 0x00 ∷ 0x04 ∷ 0xe2 ∷ 0x10 ∷ []
+
+releases7 : List Entry
+releases7 = entry 0 0 100 ∷ entry 1 1 60 ∷ []
+
+holds7 : List Entry
+holds7 = entry 1 2 8 ∷ entry 4 1 2 ∷ []
+
+lines7 : List (List Line)
+lines7 =
+    (line (frame 0 0 150 ∷ []) 150 0 ([]) ∷ line ([]) 0 0 ([]) ∷ line ([]) 0 0 ([]) ∷ [])
+    ∷ (line ([]) 50 0 (frame 0 0 150 ∷ []) ∷ line ([]) 0 0 ([]) ∷ line (frame 1 1 110 ∷ []) 110 8 ([]) ∷ [])
+    ∷ (line ([]) 0 0 ([]) ∷ line ([]) 0 0 ([]) ∷ line ([]) 110 7 ([]) ∷ [])
+    ∷ (line ([]) 0 0 ([]) ∷ line ([]) 0 0 ([]) ∷ line ([]) 110 6 ([]) ∷ [])
+    ∷ (line ([]) 0 0 ([]) ∷ line (frame 0 0 150 ∷ []) 150 2 ([]) ∷ line ([]) 110 5 ([]) ∷ [])
+    ∷ (line ([]) 0 0 ([]) ∷ line ([]) 150 1 ([]) ∷ line ([]) 110 4 ([]) ∷ [])
+    ∷ (line ([]) 0 0 ([]) ∷ line ([]) 150 0 ([]) ∷ line ([]) 110 3 ([]) ∷ [])
+    ∷ (line ([]) 0 0 ([]) ∷ line ([]) 50 0 (frame 0 0 150 ∷ []) ∷ line ([]) 110 2 ([]) ∷ [])
+    ∷ (line ([]) 0 0 ([]) ∷ line ([]) 0 0 ([]) ∷ line ([]) 110 1 ([]) ∷ [])
+    ∷ (line ([]) 0 0 ([]) ∷ line ([]) 0 0 ([]) ∷ line (frame 0 0 150 ∷ []) 260 0 ([]) ∷ [])
+    ∷ (line ([]) 0 0 ([]) ∷ line ([]) 0 0 ([]) ∷ line ([]) 160 0 (frame 1 1 110 ∷ []) ∷ [])
+    ∷ (line ([]) 0 0 ([]) ∷ line ([]) 0 0 ([]) ∷ line ([]) 60 0 (frame 0 0 150 ∷ []) ∷ [])
+    ∷ []
+
+replay7 : replay (viewOf table7) (releasedBy releases7) (chosenBy holds7) lines7 ≡ lines7
+unfolding definitions nothing lineOf linesFrom replay table7 releases7 holds7 lines7
+replay7 = refl
+
+-- A message with IP and UDP that plain would be one frame, and a plain one.
+table8 : List ℕ
+table8 = 0x00 ∷ 0x00 ∷ 0x28 ∷ 0x02 ∷ 0x05 ∷ 0x00 ∷ 0x40 ∷ 0x02 ∷ 0x5a ∷ 0x50 ∷ 0x5b ∷ 0x90 ∷ 0x00 ∷ 0x02 ∷ 0x80 ∷ 0x00 ∷ 0x03 ∷ 0x31 ∷ 0x00 ∷ 0x00 ∷ 0x16 ∷ 0x00 ∷ 0x00 ∷ 0x28 ∷ 0x00 ∷ 0x00 ∷ 0x66 ∷ 0x20 ∷ 0x00 ∷ []
+
+releases8 : List Entry
+releases8 = entry 0 0 1465 ∷ entry 3 1 11 ∷ []
+
+holds8 : List Entry
+holds8 = entry 0 0 1 ∷ []
+
+lines8 : List (List Line)
+lines8 =
+    (line (frame 0 0 1542 ∷ frame 0 0 88 ∷ []) 1630 1 ([]) ∷ [])
+    ∷ (line ([]) 1630 0 ([]) ∷ [])
+    ∷ (line ([]) 1530 0 ([]) ∷ [])
+    ∷ (line (frame 1 3 88 ∷ []) 1518 0 ([]) ∷ [])
+    ∷ (line ([]) 1418 0 ([]) ∷ [])
+    ∷ (line ([]) 1318 0 ([]) ∷ [])
+    ∷ (line ([]) 1218 0 ([]) ∷ [])
+    ∷ (line ([]) 1118 0 ([]) ∷ [])
+    ∷ (line ([]) 1018 0 ([]) ∷ [])
+    ∷ (line ([]) 918 0 ([]) ∷ [])
+    ∷ (line ([]) 818 0 ([]) ∷ [])
+    ∷ (line ([]) 718 0 ([]) ∷ [])
+    ∷ (line ([]) 618 0 ([]) ∷ [])
+    ∷ (line ([]) 518 0 ([]) ∷ [])
+    ∷ (line ([]) 418 0 ([]) ∷ [])
+    ∷ (line ([]) 318 0 ([]) ∷ [])
+    ∷ (line ([]) 218 0 (frame 0 0 1542 ∷ []) ∷ [])
+    ∷ (line ([]) 118 0 (frame 0 0 88 ∷ []) ∷ [])
+    ∷ (line ([]) 18 0 (frame 1 3 88 ∷ []) ∷ [])
+    ∷ []
+
+replay8 : replay (viewOf table8) (releasedBy releases8) (chosenBy holds8) lines8 ≡ lines8
+unfolding definitions nothing lineOf linesFrom replay table8 releases8 holds8 lines8
+replay8 = refl
