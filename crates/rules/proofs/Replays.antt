@@ -1,14 +1,14 @@
 -- Runs that a slot machine in another language printed (tests/opinion/scripted.txt): the definitions' step function gives the
--- same, slot by slot and wire by wire. Made by tests/opinion/replays.
+-- same, slot by slot and wire by wire, and their delivery the same end-to-end delays. Made by tests/opinion/replays.
 use mathlib.Core.Path.{_≡_, refl}
 use mathlib.Core.Bool.{Bool, true, false, cond, _&&_, _||_}
 use mathlib.Core.List.{List, [], _∷_, _++_}
-use Prim.Native.Nat.{ℕ, zero, suc, _+_}
+use Prim.Native.Nat.{ℕ, zero, suc, _+_, _-_}
 use lib.ListN.{length, getD}
-use lib.Dec.{eqb}
-use Rattle.rules.specs.Words.{listed, only}
+use lib.Dec.{ltb, eqb}
+use Rattle.rules.specs.Words.{total, listed, only}
 use Rattle.rules.specs.Table.{View, viewOf}
-use Rattle.rules.specs.Machine.{Frame, Waiting, Releases, Order, Choice, State, queueIn, heldIn, goneIn, arrivals, joined, bytes, step, played}
+use Rattle.rules.specs.Machine.{Frame, Waiting, Releases, message, Gone, delivered, Order, Choice, State, queueIn, heldIn, goneIn, arrivals, joined, bytes, step, played}
 use Rattle.rules.proofs.Orders.{same}
 use Rattle.rules.proofs.Witnesses.{definitions}
 
@@ -82,6 +82,24 @@ replay : View → Releases → Choice → List (List Line) → List (List Line)
 replay t released choice lines =
     linesFrom t released (orderOf lines) choice (length lines) 0 (played t released (orderOf lines) choice 0)
 
+abbrev goneBy : List (List Line) → Gone
+goneBy lines v slot = getD (getD lines slot []) v nothing .gone
+
+abbrev isLate : View → Releases → Gone → ℕ → Entry → Bool
+isLate t released gone slots x =
+    ltb (length (delivered t gone (x .number) (x .slot) (x .slot + slots))) (length (message t released (x .number) (x .slot)))
+
+-- how many of channel k's messages are not yet whole at their destination so many slots after their release
+late : View → List Entry → List (List Line) → ℕ → ℕ → ℕ
+late t xs lines k slots = total (λ (x : Entry). only (eqb (x .number) k && isLate t (releasedBy xs) (goneBy lines) slots x) 1) xs
+
+-- of each channel: whether its longest end-to-end delay is the stated one
+longest : View → List Entry → List (List Line) → List ℕ → List Bool
+longest t xs lines ends =
+    listed
+    (λ k. ltb 0 (late t xs lines k (getD ends k 0 - 1)) && eqb (late t xs lines k (getD ends k 0)) 0)
+    (t .channels)
+
 -- A message of two frames, and a shorter one between them on wire 1.
 table1 : List ℕ
 table1 = 0x00 ∷ 0x00 ∷ 0x64 ∷ 0x04 ∷ 0x05 ∷ 0x00 ∷ 0x20 ∷ 0x02 ∷ 0x4f ∷ 0x50 ∷ 0x04 ∷ 0x00 ∷ 0x2b ∷ 0xc2 ∷ 0x05 ∷ 0xd5 ∷ 0x00 ∷ 0x00 ∷ 0x64 ∷ 0x00 ∷ 0x00 ∷ 0x6c ∷ 0x20 ∷ 0x01 ∷ 0x00 ∷ 0x1b ∷ 0x80 ∷ 0x00 ∷ 0x19 ∷ 0x00 ∷ 0x00 ∷ 0x1d ∷ 0x88 ∷ 0x20 ∷ []
@@ -140,6 +158,10 @@ replay1 : replay (viewOf table1) (releasedBy releases1) (chosenBy holds1) lines1
 unfolding definitions nothing lineOf linesFrom replay table1 releases1 holds1 lines1
 replay1 = refl
 
+whole1 : longest (viewOf table1) releases1 lines1 (42 ∷ 21 ∷ []) ≡ true ∷ true ∷ []
+unfolding definitions nothing late longest table1 releases1 lines1
+whole1 = refl
+
 -- Several frames ending in one slot at rate 100; wire 0 held again, wire 1 no longer than it may be.
 table2 : List ℕ
 table2 = 0x00 ∷ 0x00 ∷ 0x0a ∷ 0x04 ∷ 0x07 ∷ 0x00 ∷ 0x00 ∷ 0x01 ∷ 0xa8 ∷ 0x90 ∷ 0x00 ∷ 0x00 ∷ 0x18 ∷ 0xb6 ∷ 0x00 ∷ 0x46 ∷ 0x00 ∷ 0x00 ∷ 0x0a ∷ 0x00 ∷ 0x00 ∷ 0x42 ∷ 0x20 ∷ 0x01 ∷ 0x00 ∷ 0x00 ∷ 0x80 ∷ 0x00 ∷ 0x02 ∷ 0x80 ∷ 0x00 ∷ 0x21 ∷ 0x10 ∷ 0x00 ∷ 0x80 ∷ 0x00 ∷ 0x40 ∷ 0x00 ∷ 0x02 ∷ 0x80 ∷ 0x00 ∷ 0x10 ∷ 0x88 ∷ 0x00 ∷ 0x40 ∷ []
@@ -182,6 +204,10 @@ replay2 : replay (viewOf table2) (releasedBy releases2) (chosenBy holds2) lines2
 unfolding definitions nothing lineOf linesFrom replay table2 releases2 holds2 lines2
 replay2 = refl
 
+whole2 : longest (viewOf table2) releases2 lines2 (22 ∷ 23 ∷ 23 ∷ []) ≡ true ∷ true ∷ true ∷ []
+unfolding definitions nothing late longest table2 releases2 lines2
+whole2 = refl
+
 -- A shuffled slot: releases in slot 0, frames due and a release in slot 5; wire 1 not held again in slot 8.
 table3 : List ℕ
 table3 = 0x00 ∷ 0x00 ∷ 0x0c ∷ 0x04 ∷ 0x0b ∷ 0x00 ∷ 0x00 ∷ 0x01 ∷ 0xb5 ∷ 0xb0 ∷ 0x00 ∷ 0x00 ∷ 0x23 ∷ 0xc0 ∷ 0x00 ∷ 0x01 ∷ 0x00 ∷ 0x00 ∷ 0x06 ∷ 0x00 ∷ 0x00 ∷ 0x52 ∷ 0x20 ∷ 0x01 ∷ 0x00 ∷ 0x13 ∷ 0x80 ∷ 0x00 ∷ 0x06 ∷ 0x00 ∷ 0x00 ∷ 0x29 ∷ 0x10 ∷ 0x00 ∷ 0x80 ∷ 0x0f ∷ 0x80 ∷ 0x00 ∷ 0x03 ∷ 0x00 ∷ 0x00 ∷ 0x09 ∷ 0x04 ∷ 0x00 ∷ 0x01 ∷ 0xf0 ∷ 0x00 ∷ 0x00 ∷ 0x60 ∷ 0x00 ∷ 0x02 ∷ 0x91 ∷ 0x00 ∷ 0x08 ∷ 0x00 ∷ 0x04 ∷ 0x00 ∷ 0x00 ∷ 0x10 ∷ 0x00 ∷ 0x00 ∷ 0xb8 ∷ 0x41 ∷ []
@@ -210,6 +236,10 @@ lines3 =
 replay3 : replay (viewOf table3) (releasedBy releases3) (chosenBy holds3) lines3 ≡ lines3
 unfolding definitions nothing lineOf linesFrom replay table3 releases3 holds3 lines3
 replay3 = refl
+
+whole3 : longest (viewOf table3) releases3 lines3 (9 ∷ 11 ∷ 7 ∷ 10 ∷ 3 ∷ []) ≡ true ∷ true ∷ true ∷ true ∷ true ∷ []
+unfolding definitions nothing late longest table3 releases3 lines3
+whole3 = refl
 
 -- Wires of rate 100 and 10.
 table4 : List ℕ
@@ -243,6 +273,10 @@ lines4 =
 replay4 : replay (viewOf table4) (releasedBy releases4) (chosenBy holds4) lines4 ≡ lines4
 unfolding definitions nothing lineOf linesFrom replay table4 releases4 holds4 lines4
 replay4 = refl
+
+whole4 : longest (viewOf table4) releases4 lines4 (16 ∷ []) ≡ true ∷ []
+unfolding definitions nothing late longest table4 releases4 lines4
+whole4 = refl
 
 -- Delays reached exactly on a later wire.
 table5 : List ℕ
@@ -313,6 +347,10 @@ lines5 =
 replay5 : replay (viewOf table5) (releasedBy releases5) (chosenBy holds5) lines5 ≡ lines5
 unfolding definitions nothing lineOf linesFrom replay table5 releases5 holds5 lines5
 replay5 = refl
+
+whole5 : longest (viewOf table5) releases5 lines5 (52 ∷ 33 ∷ []) ≡ true ∷ true ∷ []
+unfolding definitions nothing late longest table5 releases5 lines5
+whole5 = refl
 
 -- Figures reached exactly on a wire full of load.
 table6 : List ℕ
@@ -397,6 +435,10 @@ replay6 : replay (viewOf table6) (releasedBy releases6) (chosenBy holds6) lines6
 unfolding definitions nothing lineOf linesFrom replay table6 releases6 holds6 lines6
 replay6 = refl
 
+whole6 : longest (viewOf table6) releases6 lines6 (32 ∷ []) ≡ true ∷ []
+unfolding definitions nothing late longest table6 releases6 lines6
+whole6 = refl
+
 -- A channel over three wires, and another that it meets on the third; wires 1 and 2 held.
 table7 : List ℕ
 table7 = 0x00 ∷ 0x00 ∷ 0x32 ∷ 0x06 ∷ 0x05 ∷ 0x00 ∷ 0x40 ∷ 0x01 ∷ 0x96 ∷ 0x50 ∷ 0x02 ∷ 0x00 ∷ 0x0e ∷ 0x6d ∷ 0x00 ∷ 0x60 ∷ 0x01 ∷ 0xb6 ∷ 0xc0 ∷ 0x06 ∷ 0x40 ∷ 0x00 ∷ 0x03 ∷ 0x20 ∷ 0x00 ∷ 0x05 ∷ 0xe3 ∷ 0x00 ∷ 0x10 ∷ 0x80 ∷ 0x07 ∷ 0x80 ∷ 0x00 ∷ 0x03 ∷ 0x20 ∷ 0x00 ∷ 0x04 ∷ 0xe2 ∷ 0x10 ∷ []
@@ -426,6 +468,10 @@ lines7 =
 replay7 : replay (viewOf table7) (releasedBy releases7) (chosenBy holds7) lines7 ≡ lines7
 unfolding definitions nothing lineOf linesFrom replay table7 releases7 holds7 lines7
 replay7 = refl
+
+whole7 : longest (viewOf table7) releases7 lines7 (15 ∷ 13 ∷ []) ≡ true ∷ true ∷ []
+unfolding definitions nothing late longest table7 releases7 lines7
+whole7 = refl
 
 -- A message with IP and UDP that plain would be one frame, and a plain one.
 table8 : List ℕ
@@ -463,3 +509,7 @@ lines8 =
 replay8 : replay (viewOf table8) (releasedBy releases8) (chosenBy holds8) lines8 ≡ lines8
 unfolding definitions nothing lineOf linesFrom replay table8 releases8 holds8 lines8
 replay8 = refl
+
+whole8 : longest (viewOf table8) releases8 lines8 (20 ∷ 18 ∷ []) ≡ true ∷ true ∷ []
+unfolding definitions nothing late longest table8 releases8 lines8
+whole8 = refl
