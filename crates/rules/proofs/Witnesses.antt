@@ -8,6 +8,7 @@ use Prim.Native.Nat.{ℕ, suc, _+_, _-_, _*_, _/_, _%_, _≤_, _<_}
 use native.Mathlib.Nat.{div-add-mod', mul-le-mul-right, mul-mod-left, suc-mul}
 use native.Mathlib.Decide.{decLe, ℕ-discrete}
 use native.Mathlib.Omega.{arith}
+use lib.ListN.{length}
 use lib.Dec.{ltb, eqb}
 use borrow.Author.Tests.{eq-eqb, ne-eqb}
 use Rattle.bits.specs.Field.{bit, field}
@@ -106,8 +107,9 @@ pub holds-by-rate :
     (map (up (2 * fullFrame)) rates ≡ 3084 ∷ 309 ∷ 31 ∷ []) × (map (up fullFrame) rates ≡ 1542 ∷ 155 ∷ 16 ∷ [])
 holds-by-rate = (refl, refl)
 
--- A wire held as long as it may be: H 1; one wire of rate 100; a channel of payload 50, period 1. It holds exactly its backlog
--- in slot 31, and the first message takes exactly its end-to-end delay.
+-- A wire held as long as it may be: H 1; one wire of rate 100; a channel of payload 50, period 1. It holds exactly its backlog,
+-- which is its room, in slot 31; the first frame takes exactly the wire's delay, and the first message its end-to-end delay, which
+-- is its deadline.
 abbrev pub heldUp : List ℕ
 heldUp = 0x00 ∷ 0x00 ∷ 0x01 ∷ 0x02 ∷ 0x03 ∷ 0x00 ∷ 0x00 ∷ 0x01 ∷ 0x90 ∷ 0x00 ∷ 0x03 ∷ 0x20 ∷ 0x00 ∷ 0x00 ∷ 0x10 ∷ 0x00 ∷ 0x02 ∷ 0x01 ∷ 0x00 ∷ []
 
@@ -118,9 +120,15 @@ pub held-accepted : judge heldUp 12 ≡ granted (12 ∷ [])
 unfolding definitions
 held-accepted = refl
 
-pub held-figures : (K (viewOf heldUp) 0 ≡ 31) × (backlog (viewOf heldUp) 0 ≡ 3200) × (endToEnd (viewOf heldUp) 0 ≡ 32)
+pub held-figures :
+    (K (viewOf heldUp) 0 ≡ 31)
+    × (backlog (viewOf heldUp) 0 ≡ 3200)
+    × (viewOf heldUp .room 0 ≡ 3200)
+    × (delay (viewOf heldUp) 0 ≡ 32)
+    × (endToEnd (viewOf heldUp) 0 ≡ 32)
+    × (viewOf heldUp .deadline 0 ≡ 32)
 unfolding definitions
-held-figures = (refl, refl, refl)
+held-figures = (refl, refl, refl, refl, refl, refl)
 
 -- a choice of more is cut to K, of each wire its own
 pub held-cut : heldAt (viewOf heldUp) (periodic (viewOf heldUp)) in-turn (λ slot w. 1000) 0 0 ≡ K (viewOf heldUp) 0
@@ -130,6 +138,11 @@ held-cut = refl
 pub held-unsent : unsent runHeld 0 31 ≡ backlog (viewOf heldUp) 0
 unfolding definitions
 held-unsent = refl
+
+-- what came in slot 0 has not left by slot 30
+pub held-left : (length (runHeld .arrived 0 0) ≡ 1) × (gathered (runHeld .gone 0) (0 + delay (viewOf heldUp) 0 - 1) ≡ [])
+unfolding definitions
+held-left = (refl, refl)
 
 pub held-sole : Sole (viewOf heldUp) 100
 unfolding definitions
@@ -160,6 +173,14 @@ later-figures = (refl, refl, refl, refl)
 pub later-cut : heldAt (viewOf later) (periodic (viewOf later)) last-first (λ slot w. 1000) 1 34 ≡ K (viewOf later) 1
 unfolding definitions
 later-cut = refl
+
+-- of the two frames that came to wire 1 in slot 34 one has not left it by slot 50
+pub later-left :
+    (length (runLater .arrived 1 34) ≡ 2)
+    × (length (gathered (runLater .gone 1) (34 + delay (viewOf later) 1 - 1)) ≡ 1)
+    × (length (gathered (runLater .gone 1) (34 + delay (viewOf later) 1)) ≡ 2)
+unfolding definitions
+later-left = (refl, refl, refl)
 
 pub later-sole : Sole (viewOf later) smallFrame
 unfolding definitions
