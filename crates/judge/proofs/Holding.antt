@@ -16,7 +16,8 @@ use Rattle.rules.specs.Words.{sum, begins, some, up, only}
 use Rattle.rules.specs.Numbers.{wiresMost}
 use Rattle.rules.specs.Price.{fullFrame}
 use Rattle.rules.specs.Table.{View}
-use Rattle.rules.specs.Bounds.{on, carries, K}
+use Rattle.rules.specs.Office.{K}
+use Rattle.rules.specs.Bounds.{on, carries}
 use Rattle.judge.specs.Filed.{count}
 use Rattle.judge.specs.Figures.{aheadOf, AheadBelow}
 use Rattle.judge.proofs.Filing.{either, count-in, count-out}

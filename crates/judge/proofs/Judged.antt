@@ -14,10 +14,10 @@ use Rattle.rules.specs.Table.{viewOf}
 use Rattle.rules.specs.Reading.{reading}
 use Rattle.rules.specs.Decoded.{tableOf, tableLeft}
 use Rattle.rules.specs.Judgement.{boundsTests, lengthOf, judge, leaves, buffer}
-use Rattle.rules.proofs.ReadingLaws.{reading-passes, passes-reading}
-use Rattle.rules.proofs.JudgementLaws.{bounds-gate, Bounded}
+use Rattle.rules.proofs.Tables.Laws.{reading-passes, passes-reading}
+use Rattle.rules.proofs.Bounds.Judgement.{bounds-gate, Bounded}
 use Rattle.rules.proofs.Tests.{gate-granted}
-use Rattle.rules.proofs.Asking.{buffer-of, leaves-refused}
+use Rattle.rules.proofs.Sheet.Asking.{buffer-of, leaves-refused}
 
 module _ (s : List ℕ) where
   pub read-refused : (a : Reading) (n p : ℕ) → readingReply a ≡ reading s → a ≡ answer.Refused n p → reading s ≡ refused n p

@@ -16,7 +16,7 @@ use Rattle.rules.specs.Table.{View, viewOf, deadlineAt}
 use Rattle.rules.specs.Bounds.{on, loadOf, load, endToEnd}
 use Rattle.rules.specs.Judgement.{loadTest, roomTest, deadlineTest, boundsTests}
 use Rattle.rules.specs.Decoded.{column}
-use Rattle.rules.proofs.Sound.{Sound}
+use Rattle.rules.specs.Sound.{Sound}
 use Rattle.rules.proofs.Tests.{Stops, gate-granted, le-gate, all-gate}
 use Rattle.table.specs.Stages.{after, IfRead}
 use Rattle.table.proofs.Answers.{refused-by, passed-by}

@@ -19,7 +19,7 @@ use Rattle.rules.specs.Machine.{Releases, Keeps, Holding, Run, Allowed}
 use Rattle.rules.specs.Promise.{Promised}
 use Rattle.rules.proofs.Replies.{judging-one}
 use Rattle.rules.proofs.Cases.{case-a, case-a-late}
-use Rattle.rules.proofs.Promised.{promise}
+use Rattle.rules.proofs.Machine.Promised.{promise}
 use Rattle.judge.proofs.judge as judge
 use Rattle.judge.proofs.judge.Kinds as judge-kinds
 use Rattle.judge.proofs.judge.Reads as judge-reads

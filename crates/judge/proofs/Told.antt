@@ -9,8 +9,8 @@ use Rattle.rules.specs.Numbers.{wiresMost, channelsMost, hopsMost, routesMost}
 use Rattle.rules.specs.Table.{View}
 use Rattle.rules.specs.Bounds.{cost, times}
 use Rattle.rules.specs.Decoded.{column, hopOf, tableOf}
-use Rattle.rules.proofs.Sound.{Sound}
-use Rattle.rules.proofs.Columns.{column-at}
+use Rattle.rules.specs.Sound.{Sound}
+use Rattle.rules.proofs.Tables.Columns.{column-at}
 
 pub record Told (t : View) (r : Table) : Type 0 where
   pub hyper : r .hyper ≡ t .hyper

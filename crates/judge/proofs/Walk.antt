@@ -16,10 +16,10 @@ use Rattle.rules.specs.Words.{sum, total, only, has, up}
 use Rattle.rules.specs.Numbers.{wiresMost, channelsMost, hyperMost}
 use Rattle.rules.specs.Table.{View}
 use Rattle.rules.specs.Bounds.{cost, times, on, loadOf, load, along, jitter, shareOf, delayAfter, backlog, delay}
-use Rattle.rules.proofs.Sound.{Climbs, Sound}
+use Rattle.rules.specs.Sound.{Climbs, Sound}
 use Rattle.rules.proofs.Sums.{sum-le, sum-add, sum-scale}
-use Rattle.rules.proofs.Prices.{priceMost, price-most}
-use Rattle.rules.proofs.Routes.{climbs-least}
+use Rattle.rules.proofs.Price.{priceMost, price-most}
+use Rattle.rules.proofs.Bounds.Routes.{climbs-least}
 use Rattle.judge.specs.Filed.{filedMost, Filing}
 use Rattle.judge.specs.Figures.{part, FiledBelow}
 use Rattle.judge.proofs.Filing.{either, never, count-most, next-place, next-load, next-fits, filing-same, filed-put, filed-next}

@@ -10,14 +10,15 @@ use Rattle.bits.proofs.Laws.{field-lt}
 use Rattle.rules.specs.Words.{sum, only}
 use Rattle.rules.specs.Numbers.{wiresMost, channelsMost, hopsMost, hyperMost}
 use Rattle.rules.specs.Table.{View, viewOf, roomOf, propOf}
-use Rattle.rules.specs.Bounds.{on, carries, K, load, jitter, shareOf, backlogAfter, known, backlog, delay, endToEnd}
+use Rattle.rules.specs.Office.{K}
+use Rattle.rules.specs.Bounds.{on, carries, load, jitter, shareOf, backlogAfter, known, backlog, delay, endToEnd}
 use Rattle.rules.specs.Judgement.{roomTest}
 use Rattle.rules.specs.Decoded.{column}
-use Rattle.rules.proofs.Sound.{Sound}
-use Rattle.rules.proofs.Delays.{jitter-known}
+use Rattle.rules.specs.Sound.{Sound}
+use Rattle.rules.proofs.Bounds.Delays.{jitter-known}
 use Rattle.rules.proofs.Tests.{Through, Stops, gate-through, le-gate}
-use Rattle.rules.proofs.Search.{le-stops}
-use Rattle.rules.proofs.Columns.{column-none, column-set, column-told, column-at, column-past, column-more, length-column}
+use Rattle.rules.proofs.Tables.Search.{le-stops}
+use Rattle.rules.proofs.Tables.Columns.{column-none, column-set, column-told, column-at, column-past, column-more, length-column}
 use native.Mathlib.Decide.{ℕ-discrete}
 use Rattle.judge.specs.Filed.{Raised}
 use Rattle.judge.proofs.Told.{entry-at}

@@ -15,7 +15,7 @@ ghost use Rattle.rules.specs.Reading.{reading};
 ghost use Rattle.rules.specs.Bounds.{cost, times as timesOf, on, load as loadOf, shareOf, known, jitter as jitterOf};
 ghost use Rattle.rules.specs.Judgement.{roomTest, boundsTests};
 ghost use Rattle.rules.specs.Decoded.{tableOf, column};
-ghost use Rattle.rules.proofs.Sound.{Sound};
+ghost use Rattle.rules.specs.Sound.{Sound};
 ghost use Rattle.table.specs.Stages.{after, IfRead};
 ghost use Rattle.judge.specs.Filed.{Stretch, Raised};
 ghost use Rattle.judge.specs.Figures.{FiledBelow, part as partOf, AheadBelow, limitTest, WorkedOut};

@@ -5,7 +5,7 @@ ghost use Prim.Native.Nat.{ℕ, _-_, _*_, _^_, _≤_, _<_};
 ghost use lib.ListN.{length, replicate};
 ghost use Rattle.rules.specs.Numbers.{wiresMost, channelsMost, wiresBits, channelsBits, backlogBits, delayBits, endBits};
 ghost use Rattle.rules.specs.Sheet.{endAt, figuresAt, sheetLength, withHead, withWires, withChannels, sheetOf};
-ghost use Rattle.rules.proofs.SheetLaws.{Fits};
+ghost use Rattle.rules.specs.Fits.{Fits};
 ghost use Rattle.judge.specs.Arrays.{entries};
 use rules::Table;
 

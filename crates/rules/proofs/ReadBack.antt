@@ -20,8 +20,8 @@ use Rattle.rules.specs.Machine.{Frame, Releases, Keeps, Holding, Run, Al
 use Rattle.rules.specs.Cases.{Case, Figures, Same, Hold, all, _and_, cases, evaluate, MarkedCases}
 use Rattle.rules.specs.Incident.{PrefixesRefused, ExtensionsRefused, LongerAlike, SameView, OneString, LeavesNoSheet, GivesBack}
 use Rattle.rules.specs.Promise.{WirePromised, ChannelPromised, Promised, Promise, PromiseAlone}
-use Rattle.rules.proofs.JudgementLaws.{judge-refused}
-use Rattle.rules.proofs.Orders.{count, among-before}
+use Rattle.rules.proofs.Bounds.Judgement.{judge-refused}
+use Rattle.rules.proofs.Machine.Orders.{count, among-before}
 
 -- ---- the promise
 

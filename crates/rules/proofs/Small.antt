@@ -8,14 +8,15 @@ use Rattle.bits.proofs.Laws.{field-lt}
 use Rattle.rules.specs.Numbers.{wiresMost, channelsMost, backlogBits, delayBits, endBits, sheetLongest}
 use Rattle.rules.specs.Replies.{Reply, granted, refused, test, each}
 use Rattle.rules.specs.Table.{View, viewOf, wiresOf, channelsOf}
-use Rattle.rules.specs.Reading.{headTests, wireTests, hopTests, recordTests, channelTests, fillingTests, readingTests}
+use Rattle.rules.specs.Channel.{valueTests, hopTests}
+use Rattle.rules.specs.Reading.{headTests, wireTests, recordTests, channelTests, fillingTests, readingTests}
 use Rattle.rules.specs.Price.{askPrice}
 use Rattle.rules.specs.Sheet.{sheetTests, askWire, askChannel}
-use Rattle.rules.specs.Judgement.{loadTest, roomTest, deadlineTest, boundsTests, judge}
+use Rattle.rules.specs.Judgement.{loadTest, roomTest, deadlineTest, boundsTests, deadlineTests, judge}
 use Rattle.rules.proofs.Tests.{Gate, through, stops, lt-gate, between-gate}
-use Rattle.rules.proofs.ReadingLaws.{head-gate}
-use Rattle.rules.proofs.Prices.{priceMost, price-most}
-use Rattle.rules.proofs.SheetLaws.{sheet-longest}
+use Rattle.rules.proofs.Tables.Laws.{head-gate}
+use Rattle.rules.proofs.Price.{priceMost, price-most}
+use Rattle.rules.proofs.Sheet.Laws.{sheet-longest}
 
 abbrev pub Low : ℕ → ℕ → Type 0
 Low number place = (1 ≤ number) × (number ≤ 20) × (place < channelsMost)
@@ -115,7 +116,7 @@ module _ {P : List ℕ → Type 0} (s : List ℕ) where
       fine-test _ 9 c (omega arith) _ (fine-test _ 10 c (omega arith) _ (fine-hops n c (suc x) xs l rest h))
 
   fine-channel : (c : ℕ) → c < channelsMost → Fine P (channelTests s c)
-  unfolding channelTests recordTests
+  unfolding channelTests recordTests valueTests
   fine-channel c l rest h =
       fine-test _ 1 0 (omega arith) _
       (fine-test _ 6 c (omega arith) _
@@ -128,8 +129,8 @@ module _ {P : List ℕ → Type 0} (s : List ℕ) where
   unfolding fillingTests
   fine-filling = fine-test _ 11 0 (omega arith)
 
-fine-bounds : {P : List ℕ → Type 0} (t : View) → t .wires ≤ wiresMost → t .channels ≤ channelsMost → Fine P (boundsTests t)
-unfolding boundsTests loadTest roomTest deadlineTest
+fine-bounds : {P : List ℕ → Type 0} (t : View) → t .wires ≤ wiresMost → t .channels ≤ channelsMost → Fine P (λ rest. boundsTests t (deadlineTests t rest))
+unfolding boundsTests deadlineTests loadTest roomTest deadlineTest
 fine-bounds t a b rest h =
     fine-each (loadTest t) 0 (t .wires) (λ w l. fine-test _ 12 w (omega arith)) _
     (fine-each (roomTest t) 0 (t .wires) (λ w l. fine-test _ 13 w (omega arith)) _

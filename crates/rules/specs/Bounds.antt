@@ -4,9 +4,10 @@ use mathlib.Core.List.{List, [], _∷_, _++_}
 use Prim.Native.Nat.{ℕ, zero, suc, _+_, _-_, _*_, _/_}
 use lib.ListN.{getD}
 use lib.Dec.{eqb}
-use Rattle.rules.specs.Words.{sum, total, up, only, has, begins, some}
-use Rattle.rules.specs.Price.{fullFrame, price}
+use Rattle.rules.specs.Words.{sum, total, up, only, has, some}
+use Rattle.rules.specs.Price.{price}
 use Rattle.rules.specs.Table.{View}
+use Rattle.rules.specs.Office.{K}
 
 abbrev pub cost : View → ℕ → ℕ
 cost t k = price (t .framing k) (t .payload k)
@@ -35,24 +36,20 @@ along f (v ∷ vs) w = cond (eqb v w) 0 (f v + along f vs w)
 unfoldable pub jitter : View → (ℕ → ℕ) → ℕ → ℕ → ℕ
 jitter t delays w k = along (λ v. delays v - 1) (t .route k) w
 
--- Request Q-4. A wire that is first on some route; a wire that carries channels.
-abbrev pub first : View → ℕ → Bool
-first t w = some (λ k. begins w (t .route k)) (t .channels)
-
+-- a wire that carries channels
 abbrev pub carries : View → ℕ → Bool
 carries t w = some (on t w) (t .channels)
 
--- K is 3,084 / rate rounded up for a wire that is first on some route, else 1,542 / rate rounded up: two full frames, or one.
-unfoldable pub K : View → ℕ → ℕ
-K t w = up (cond (first t w) (2 * fullFrame) fullFrame) (t .rate w)
-
--- Backlog: the sum over its channels of C × H + C × (H / P) × J, divided by H once, at the end, rounded down. Request Q-4: a
--- wire that carries channels gets rate × K more.
+-- Backlog: the sum over its channels of C × H + C × (H / P) × J, which is the burst times H; divided by H once, at the end,
+-- rounded down. Request Q-4: a wire that carries channels gets rate × K more.
 unfoldable pub shareOf : View → (ℕ → ℕ) → ℕ → ℕ → ℕ
 shareOf t delays w k = only (on t w k) (cost t k * t .hyper + cost t k * times t k * jitter t delays w k)
 
+unfoldable pub burst : View → (ℕ → ℕ) → ℕ → ℕ
+burst t delays w = sum (shareOf t delays w) (t .channels)
+
 unfoldable pub backlogAfter : View → (ℕ → ℕ) → ℕ → ℕ
-backlogAfter t delays w = sum (shareOf t delays w) (t .channels) / t .hyper + only (carries t w) (t .rate w * K t w)
+backlogAfter t delays w = burst t delays w / t .hyper + only (carries t w) (t .rate w * K t w)
 
 -- Wire delay: backlog / rate, rounded up.
 unfoldable pub delayAfter : View → (ℕ → ℕ) → ℕ → ℕ

@@ -23,10 +23,14 @@ deadlineTest t k rest = test (leb (endToEnd t k) (t .deadline k)) 14 k rest
 
 -- 12 over all wires, 13 over all wires, 14 over all channels, each lowest number first.
 unfoldable pub boundsTests : View → Reply → Reply
-boundsTests t rest =
-    each (loadTest t) 0 (t .wires)
-    (each (roomTest t) 0 (t .wires)
-    (each (deadlineTest t) 0 (t .channels) rest))
+boundsTests t rest = each (loadTest t) 0 (t .wires) (each (roomTest t) 0 (t .wires) rest)
+
+unfoldable pub deadlineTests : View → Reply → Reply
+deadlineTests t rest = each (deadlineTest t) 0 (t .channels) rest
+
+-- The reply to working out the bounds alone: 1 to 13.
+unfoldable pub bounding : List ℕ → Reply
+bounding s = readingTests s (boundsTests (viewOf s) (granted []))
 
 abbrev pub lengthOf : View → ℕ
 lengthOf t = sheetLength (t .wires) (t .channels)
@@ -34,7 +38,10 @@ lengthOf t = sheetLength (t .wires) (t .channels)
 -- Then 15: lent buffer shorter than the sheet. Acceptance returns the sheet's length in bytes.
 unfoldable pub judge : List ℕ → ℕ → Reply
 judge s lent =
-    readingTests s (boundsTests (viewOf s) (test (leb (lengthOf (viewOf s)) lent) 15 0 (granted (lengthOf (viewOf s) ∷ []))))
+    readingTests s
+    (boundsTests (viewOf s)
+    (deadlineTests (viewOf s)
+    (test (leb (lengthOf (viewOf s)) lent) 15 0 (granted (lengthOf (viewOf s) ∷ [])))))
 
 unfoldable pub sheet : View → List ℕ
 sheet t = sheetOf (t .wires) (t .channels) (backlog t) (delay t) (endToEnd t)

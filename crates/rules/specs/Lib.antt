@@ -5,10 +5,14 @@ pub mod Words
 pub mod Numbers
 pub mod Replies
 pub mod Price
+pub mod Channel
 pub mod Table
 pub mod Reading
+pub mod Office
 pub mod Bounds
+pub mod Sound
 pub mod Decoded
+pub mod Fits
 pub mod Sheet
 pub mod Judgement
 pub mod Machine

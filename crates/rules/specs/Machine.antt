@@ -8,7 +8,7 @@ use lib.Dec.{leb, eqb}
 use Rattle.rules.specs.Words.{total, listed, gathered, cut}
 use Rattle.rules.specs.Price.{frames}
 use Rattle.rules.specs.Table.{View, Source, nowhere, release, wire, source, lastWire}
-use Rattle.rules.specs.Bounds.{K}
+use Rattle.rules.specs.Office.{K}
 
 -- A frame, with its message: the channel, and the slot of its release.
 pub record Frame : Type 0 where

@@ -49,7 +49,11 @@ unfoldable pub frames : ℕ → ℕ → List ℕ
 frames framing payload =
     replicate (payload / rowOf framing .most) fullFrame ++ lastFrame (rowOf framing) (payload % rowOf framing .most)
 
--- Asking a price: 20 framing other than 0 or 1, then 6 for payload 0 or over 65,535.
+-- 6: payload 0 or over 65,535.
+abbrev pub payloadTest : ℕ → ℕ → Reply → Reply
+payloadTest place payload rest = test (between 1 payload payloadMost) 6 place rest
+
+-- Asking a price: 20 framing other than 0 or 1, then 6.
 unfoldable pub askPrice : ℕ → ℕ → Reply
 askPrice framing payload =
-    test (ltb framing (length rows)) 20 0 (test (between 1 payload payloadMost) 6 0 (granted (price framing payload ∷ [])))
+    test (ltb framing (length rows)) 20 0 (payloadTest 0 payload (granted (price framing payload ∷ [])))

@@ -1,13 +1,14 @@
 -- Reading a table: tests 1 to 11, in this order. `rest` is the reply where every test here passes.
-use mathlib.Core.Bool.{Bool, _&&_}
-use mathlib.Core.List.{List, [], _∷_}
-use Prim.Native.Nat.{ℕ, suc, _+_, _*_, _%_}
+use mathlib.Core.Bool.{_&&_}
+use mathlib.Core.List.{List, []}
+use Prim.Native.Nat.{ℕ, _+_, _*_}
 use lib.ListN.{length}
 use lib.Dec.{leb, ltb, eqb}
 use Rattle.bits.specs.Field.{within}
 use Rattle.rules.specs.Words.{up, between}
-use Rattle.rules.specs.Numbers.{rates, hyperMost, wiresMost, channelsMost, hopsMost, headBits, wireBits, fixedBits, hopBits}
+use Rattle.rules.specs.Numbers.{rates, hyperMost, wiresMost, channelsMost, headBits, wireBits, fixedBits, hopBits}
 use Rattle.rules.specs.Replies.{Reply, granted, test, each}
+use Rattle.rules.specs.Channel.{valueTests, routeTests}
 use Rattle.rules.specs.Table.{hyperOf, wiresOf, channelsOf, wireAt, codeOf, channelAt, payloadAt, periodAt, hopsAt, routeAt, endOf, fillingOf}
 
 -- The three header fields are read whole before 2, 3, 4. 1: a field needed next goes past the end. 2: H is 0 or over
@@ -23,26 +24,14 @@ headTests s rest =
 unfoldable pub wireTests : List ℕ → ℕ → Reply → Reply
 wireTests s w rest = test (within s (wireAt w) wireBits) 1 0 (test (ltb (codeOf s w) (length rates)) 5 w rest)
 
--- 9 and 10 hop by hop, 9 before 10. 9: route names a wire not below n. 10: route wire not above the one before; `least` is
--- the least wire that is above it, and 0 at the first hop.
-unfoldable pub hopTests : ℕ → ℕ → ℕ → List ℕ → Reply → Reply
-hopTests n c least [] rest = rest
-hopTests n c least (x ∷ xs) rest = test (ltb x n) 9 c (test (leb least x) 10 c (hopTests n c (suc x) xs rest))
-
--- p divides h, and is not 0
-abbrev pub divides : ℕ → ℕ → Bool
-divides p h = ltb 0 p && eqb (h % p) 0
-
--- A channel's fixed 69 bits are read whole before 6, 7, 8; its route bits are read whole before 9 and 10. 6: payload 0.
--- 7: period 0 or no divisor of H. 8: hops 0 or over 8. The record of channel c starts at bit `at`.
+-- A channel's fixed 69 bits are read whole before 6, 7, 8; its route bits are read whole before 9 and 10. The record of
+-- channel c starts at bit `at`.
 unfoldable pub recordTests : List ℕ → ℕ → ℕ → Reply → Reply
 recordTests s c at rest =
     test (within s at fixedBits) 1 0
-    (test (ltb 0 (payloadAt s at)) 6 c
-    (test (divides (periodAt s at) (hyperOf s)) 7 c
-    (test (between 1 (hopsAt s at) hopsMost) 8 c
+    (valueTests c (hyperOf s) (payloadAt s at) (periodAt s at) (hopsAt s at)
     (test (within s (at + fixedBits) (hopBits * hopsAt s at)) 1 0
-    (hopTests (wiresOf s) c 0 (routeAt s (at + fixedBits) (hopsAt s at)) rest)))))
+    (routeTests (wiresOf s) c (routeAt s (at + fixedBits) (hopsAt s at)) rest)))
 
 unfoldable pub channelTests : List ℕ → ℕ → Reply → Reply
 channelTests s c rest = recordTests s c (channelAt s c) rest

@@ -26,6 +26,16 @@ unfoldable pub each : (ℕ → Reply → Reply) → ℕ → ℕ → Reply → Re
 each tests i zero rest = rest
 each tests i (suc left) rest = tests i (each tests (suc i) left rest)
 
+-- of a stage with this answer to its tests: the reply, which is what follows where nothing was refused
+abbrev pub after : Reading → Reply → Reply
+after reading.Read rest = rest
+after (reading.Refused number place) rest = refused number place
+
+-- a fact of what a stage leaves, where nothing was refused
+abbrev pub IfRead : Reading → Type 0 → Type 0
+IfRead reading.Read P = P
+IfRead (reading.Refused number place) P = Unit {0}
+
 -- Of each answer's cases, document 01's reply.
 abbrev pub pricingReply : Pricing → Reply
 pricingReply (pricing.Price bytes) = granted (bytes ∷ [])

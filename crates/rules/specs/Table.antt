@@ -105,13 +105,13 @@ pub data Source : Type 0 where
   wire : ℕ → Source
 
 -- the same on the wires that follow v
-unfoldable pub after : ℕ → List ℕ → ℕ → Source
-after v [] w = nowhere
-after v (x ∷ xs) w = cond (eqb x w) (wire v) (after x xs w)
+unfoldable pub sourceAfter : ℕ → List ℕ → ℕ → Source
+sourceAfter v [] w = nowhere
+sourceAfter v (x ∷ xs) w = cond (eqb x w) (wire v) (sourceAfter x xs w)
 
 unfoldable pub source : List ℕ → ℕ → Source
 source [] w = nowhere
-source (x ∷ xs) w = cond (eqb x w) release (after x xs w)
+source (x ∷ xs) w = cond (eqb x w) release (sourceAfter x xs w)
 
 -- the wire that a route ends with
 unfoldable pub lastWire : List ℕ → ℕ

@@ -11,7 +11,7 @@ use Rattle.rules.specs.Replies.{Reply, refused}
 use Rattle.rules.specs.Price.{price}
 use Rattle.rules.specs.Bounds.{cost, times}
 use Rattle.rules.specs.Table.{viewOf, hyperOf, wiresOf, channelsOf, rateOf, propOf, roomOf, framingAt, payloadAt, periodAt, deadlineAt, hopsAt, routeAt, channelAt}
-use Rattle.rules.specs.Reading.{hopTests}
+use Rattle.rules.specs.Channel.{hopTests}
 use Rattle.rules.specs.Decoded.{column, hopOf}
 use Rattle.table.specs.declared.Head.{Head}
 use Rattle.table.specs.declared.Wires.{Wires}

@@ -2,7 +2,7 @@
 use mathlib.Core.Path.{sym}
 use native.Mathlib.Omega.{arith}
 use borrow.Author.Needs.{needs}
-use Rattle.rules.proofs.Prices.{last-none, last-small, last-large}
+use Rattle.rules.proofs.Price.{last-none, last-small, last-large}
 use Rattle.framing.proofs.last_bytes.Statement.{statement}
 use Rattle.framing.proofs.last_bytes.Tie as tie
 use Rattle.framing.proofs.last_bytes.Reads as reads

@@ -2,7 +2,7 @@
 use mathlib.Core.Path.{sym}
 use mathlib.Core.Logic.{inl, inr}
 use native.Mathlib.Omega.{arith}
-use Rattle.rules.proofs.Prices.{ask-framing, ask-payload, ask-granted}
+use Rattle.rules.proofs.Price.{ask-framing, ask-payload, ask-granted}
 use Rattle.framing.proofs.price.Statement.{statement}
 use Rattle.framing.proofs.price.Tie as tie
 use Rattle.framing.proofs.price.Reads as reads

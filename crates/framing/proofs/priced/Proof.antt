@@ -5,7 +5,7 @@ use Prim.Native.Nat.{_%_}
 use native.Mathlib.Omega.{arith}
 use native.Mathlib.Nat.{div-le-self, mod-lt}
 use Rattle.rules.specs.Price.{rowOf, price}
-use Rattle.rules.proofs.Prices.{fair, last-most}
+use Rattle.rules.proofs.Price.{fair, last-most}
 use Rattle.framing.proofs.priced.Statement.{statement}
 use Rattle.framing.proofs.priced.Tie as tie
 use Rattle.framing.proofs.priced.Reads as reads

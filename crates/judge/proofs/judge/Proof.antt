@@ -11,13 +11,13 @@ use Rattle.rules.specs.Reading.{reading}
 use Rattle.rules.specs.Decoded.{tableOf}
 use Rattle.rules.specs.Sheet.{sheetLength, sheetOf}
 use Rattle.rules.specs.Judgement.{boundsTests, lengthOf}
-use Rattle.rules.proofs.Sound.{Sound}
-use Rattle.rules.proofs.ReadingLaws.{granted-sound}
-use Rattle.rules.proofs.SheetLaws.{Fits}
-use Rattle.rules.proofs.Fits.{fits-view}
-use Rattle.rules.proofs.Asking.{FitsSheet}
-use Rattle.rules.proofs.JudgementLaws.{judge-refused}
-use Rattle.rules.proofs.Written.{Holds, fits-held, leaves-held}
+use Rattle.rules.specs.Sound.{Sound}
+use Rattle.rules.proofs.Tables.Laws.{granted-sound}
+use Rattle.rules.specs.Fits.{Fits}
+use Rattle.rules.proofs.Sheet.Fits.{fits-view}
+use Rattle.rules.proofs.Sheet.Asking.{FitsSheet}
+use Rattle.rules.proofs.Bounds.Judgement.{judge-refused}
+use Rattle.rules.proofs.Sheet.Written.{Holds, fits-held, leaves-held}
 use Rattle.table.proofs.Answers.{refused-by, passed-by, read-of}
 use Rattle.judge.specs.declared.bounds.Worked.{Worked}
 use Rattle.judge.specs.Arrays.{entries}

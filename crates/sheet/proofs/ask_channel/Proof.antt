@@ -4,7 +4,7 @@ use mathlib.Core.Path.{sym}
 use native.Mathlib.Omega.{arith}
 use borrow.Author.Needs.{needs}
 use Rattle.rules.specs.Sheet.{figuresAt, endAt}
-use Rattle.rules.proofs.SheetReplies.{Passed, fault-none, ask-channel-fault, ask-channel-none, ask-channel-some}
+use Rattle.rules.proofs.Sheet.Replies.{Passed, fault-none, ask-channel-fault, ask-channel-none, ask-channel-some}
 use Rattle.sheet.proofs.ask_channel.Statement.{statement}
 use Rattle.sheet.proofs.ask_channel.Tie as tie
 

@@ -4,7 +4,7 @@ use mathlib.Core.Path.{sym}
 use native.Mathlib.Omega.{arith}
 use borrow.Author.Needs.{needs}
 use Rattle.rules.specs.Sheet.{figuresAt, endAt}
-use Rattle.rules.proofs.SheetReplies.{Passed, fault-none, ask-wire-fault, ask-wire-none, ask-wire-some}
+use Rattle.rules.proofs.Sheet.Replies.{Passed, fault-none, ask-wire-fault, ask-wire-none, ask-wire-some}
 use Rattle.sheet.proofs.ask_wire.Statement.{statement}
 use Rattle.sheet.proofs.ask_wire.Tie as tie
 

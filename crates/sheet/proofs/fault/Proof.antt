@@ -8,7 +8,7 @@ use native.Mathlib.Omega.{arith}
 use borrow.Author.Needs.{needs}
 use Rattle.rules.specs.Replies.{test}
 use Rattle.rules.specs.Sheet.{figuresAt, endAt, sheetWires, sheetChannels}
-use Rattle.rules.proofs.SheetReplies.{Counted, tests-short, tests-wires, tests-channels, tests-length, tests-filling, tests-pass}
+use Rattle.rules.proofs.Sheet.Replies.{Counted, tests-short, tests-wires, tests-channels, tests-length, tests-filling, tests-pass}
 use Rattle.sheet.proofs.fault.Statement.{statement}
 use Rattle.sheet.proofs.fault.Tie as tie
 

@@ -15,12 +15,13 @@ use Rattle.rules.specs.Numbers.{headBits, wireBits, fixedBits, hopBits, wiresMo
 use Rattle.rules.specs.Replies.{Reply, each}
 use Rattle.rules.specs.Bounds.{cost, times}
 use Rattle.rules.specs.Table.{viewOf, wiresOf, wireAt, hopsAt, routeAt, channelAt}
-use Rattle.rules.specs.Reading.{hopTests, recordTests, channelTests}
+use Rattle.rules.specs.Channel.{hopTests}
+use Rattle.rules.specs.Reading.{recordTests, channelTests}
 use Rattle.rules.specs.Decoded.{column, hopOf}
-use Rattle.rules.proofs.Columns.{column-none, column-set, routes-set, routes-next}
+use Rattle.rules.proofs.Tables.Columns.{column-none, column-set, routes-set, routes-next}
 use Rattle.rules.proofs.Tests.{Stops}
-use Rattle.rules.proofs.ReadingLaws.{length-route}
-use Rattle.rules.proofs.Search.{FromHere, from-start, from-next, from-stop, from-end, HopsHere, hops-start, hops-9, hops-10, hops-next, hops-end, getD-route, channel-record}
+use Rattle.rules.proofs.Tables.Laws.{length-route}
+use Rattle.rules.proofs.Tables.Search.{FromHere, from-start, from-next, from-stop, from-end, HopsHere, hops-start, hops-9, hops-10, hops-next, hops-end, getD-route, channel-record}
 use Rattle.table.specs.Stages.{FixedRead, hopsLeft}
 use Rattle.table.proofs.Answers.{passage, refused-by, passed-by, read-of}
 use Rattle.table.proofs.channels_of.Statement.{statement}

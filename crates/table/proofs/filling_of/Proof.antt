@@ -4,7 +4,7 @@ use mathlib.Core.List.{List}
 use native.Mathlib.Omega.{arith}
 use Prim.Native.Nat.{ℕ}
 use Rattle.rules.specs.Table.{endOf, fillingOf}
-use Rattle.rules.proofs.Search.{filling-is, filling-long, filling-not-0, filling-passes}
+use Rattle.rules.proofs.Tables.Search.{filling-is, filling-long, filling-not-0, filling-passes}
 use Rattle.table.proofs.filling_of.Statement.{statement}
 use Rattle.table.proofs.filling_of.Tie as tie
 

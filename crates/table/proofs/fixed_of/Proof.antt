@@ -10,7 +10,7 @@ use Rattle.bits.proofs.Laws.{field-lt}
 use Rattle.rules.specs.Numbers.{fixedBits, hopBits}
 use Rattle.rules.specs.Price.{price}
 use Rattle.rules.specs.Table.{hyperOf, framingAt, payloadAt, periodAt, deadlineAt, hopsAt}
-use Rattle.rules.proofs.Search.{record-1, record-6, record-7, record-8, record-route, record-hops}
+use Rattle.rules.proofs.Tables.Search.{record-1, record-6, record-7, record-8, record-route, record-hops}
 use Rattle.table.proofs.Answers.{held, missed, refusal}
 use Rattle.table.proofs.fixed_of.Statement.{statement}
 use Rattle.table.proofs.fixed_of.Tie as tie

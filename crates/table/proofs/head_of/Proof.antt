@@ -8,7 +8,7 @@ use lib.ListN.{length}
 use borrow.Author.Needs.{needs}
 use Rattle.rules.specs.Numbers.{headBits}
 use Rattle.rules.specs.Table.{hyperOf, wiresOf, channelsOf}
-use Rattle.rules.proofs.Search.{head-1, head-2, head-3, head-4, head-passes}
+use Rattle.rules.proofs.Tables.Search.{head-1, head-2, head-3, head-4, head-passes}
 use Rattle.table.proofs.Answers.{held, missed}
 use Rattle.table.proofs.head_of.Statement.{statement}
 use Rattle.table.proofs.head_of.Tie as tie

@@ -5,7 +5,7 @@ use native.Mathlib.Omega.{arith}
 use borrow.Author.Needs.{needs}
 use Rattle.rules.specs.Replies.{granted, pricingReply}
 use Rattle.rules.specs.Price.{price}
-use Rattle.rules.proofs.Prices.{ask-granted}
+use Rattle.rules.proofs.Price.{ask-granted}
 use Rattle.table.proofs.price_of.Statement.{statement}
 use Rattle.table.proofs.price_of.Tie as tie
 

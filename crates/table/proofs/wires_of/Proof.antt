@@ -12,8 +12,8 @@ use Rattle.rules.specs.Numbers.{rates, wireBits, wiresMost}
 use Rattle.rules.specs.Table.{wireAt, codeOf, rateOf, propOf, roomOf}
 use Rattle.rules.specs.Reading.{wireTests}
 use Rattle.rules.specs.Decoded.{column}
-use Rattle.rules.proofs.Columns.{column-none, column-set}
-use Rattle.rules.proofs.Search.{FromHere, from-start, from-next, from-stop, from-end, wire-1, wire-5, wire-passes, no-rate, some-rate}
+use Rattle.rules.proofs.Tables.Columns.{column-none, column-set}
+use Rattle.rules.proofs.Tables.Search.{FromHere, from-start, from-next, from-stop, from-end, wire-1, wire-5, wire-passes, no-rate, some-rate}
 use Rattle.table.proofs.Answers.{held, missed, passage}
 use Rattle.table.proofs.wires_of.Statement.{statement}
 use Rattle.table.proofs.wires_of.Tie as tie

@@ -11,9 +11,9 @@ use Rattle.rules.specs.Replies.{Reply, each}
 use Rattle.rules.specs.Table.{View, viewOf}
 use Rattle.rules.specs.Bounds.{on}
 use Rattle.rules.specs.Judgement.{loadTest}
-use Rattle.rules.proofs.Sound.{Sound}
-use Rattle.rules.proofs.ReadingLaws.{granted-sound}
-use Rattle.rules.proofs.Columns.{length-column}
+use Rattle.rules.specs.Sound.{Sound}
+use Rattle.rules.proofs.Tables.Laws.{granted-sound}
+use Rattle.rules.proofs.Tables.Columns.{length-column}
 use Rattle.table.specs.Stages.{after}
 use Rattle.table.proofs.Answers.{refusal, read-of}
 use Rattle.judge.specs.Figures.{part, FiledBelow, AheadBelow, limitTest, WorkedOut}

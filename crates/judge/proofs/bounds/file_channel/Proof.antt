@@ -8,7 +8,7 @@ use lib.ListN.{length, getD, set}
 use borrow.Author.Needs.{needs}
 use Rattle.rules.specs.Numbers.{channelsMost, hopsMost, routesMost}
 use Rattle.rules.specs.Table.{View, viewOf}
-use Rattle.rules.proofs.Sound.{Sound}
+use Rattle.rules.specs.Sound.{Sound}
 use Rattle.judge.proofs.Walk.{FiledHops, hops-start, hops-end, hop-wire, hop-place, hop-fits, hop-load, hop-filed}
 use Rattle.judge.proofs.bounds.file_channel.Statement.{statement}
 use Rattle.judge.proofs.bounds.file_channel.Tie as tie

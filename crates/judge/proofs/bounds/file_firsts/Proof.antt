@@ -6,7 +6,7 @@ use lib.ListN.{length, getD}
 use borrow.Author.Needs.{needs}
 use Rattle.rules.specs.Numbers.{wiresMost, hopsMost, routesMost}
 use Rattle.rules.specs.Table.{View, viewOf}
-use Rattle.rules.proofs.Sound.{Sound}
+use Rattle.rules.specs.Sound.{Sound}
 use Rattle.judge.specs.Figures.{AheadBelow}
 use Rattle.judge.proofs.Walk.{hop-below}
 use Rattle.judge.proofs.Told.{Told, told, hop-at}

@@ -6,7 +6,7 @@ use lib.ListN.{getD}
 use borrow.Author.Needs.{needs}
 use Rattle.rules.specs.Replies.{Reply}
 use Rattle.rules.proofs.Tests.{gate-through, le-gate}
-use Rattle.rules.proofs.Search.{FromHere, from-start, from-next, from-stop, from-end, le-stops}
+use Rattle.rules.proofs.Tables.Search.{FromHere, from-start, from-next, from-stop, from-end, le-stops}
 use Rattle.judge.specs.Figures.{limitTest}
 use Rattle.judge.proofs.bounds.none_over.Statement.{statement}
 use Rattle.judge.proofs.bounds.none_over.Tie as tie

@@ -16,9 +16,9 @@ use Rattle.rules.specs.Table.{View, viewOf}
 use Rattle.rules.specs.Bounds as bounds
 use Rattle.rules.specs.Judgement.{roomTest}
 use Rattle.rules.specs.Decoded.{column}
-use Rattle.rules.proofs.Sound.{Sound}
-use Rattle.rules.proofs.Columns.{length-column}
-use Rattle.rules.proofs.Search.{FromHere, from-start, from-next, from-stop, from-end}
+use Rattle.rules.specs.Sound.{Sound}
+use Rattle.rules.proofs.Tables.Columns.{length-column}
+use Rattle.rules.proofs.Tables.Search.{FromHere, from-start, from-next, from-stop, from-end}
 use Rattle.table.proofs.Answers.{refusal}
 use Rattle.judge.specs.Figures.{aheadOf}
 use Rattle.judge.proofs.Told.{Told, told, entry-at}

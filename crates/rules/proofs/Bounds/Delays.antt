@@ -12,12 +12,13 @@ use lib.Seq.{getD-append-add}
 use Rattle.rules.specs.Words.{sum, up}
 use Rattle.rules.specs.Price.{smallFrame}
 use Rattle.rules.specs.Table.{View}
-use Rattle.rules.specs.Bounds.{cost, on, first, carries, K, along, jitter, shareOf, backlogAfter, delayAfter, delaysBelow, known, backlog, delay}
-use Rattle.rules.proofs.Sound.{Sound, Climbs}
+use Rattle.rules.specs.Office.{first, K}
+use Rattle.rules.specs.Bounds.{cost, on, carries, along, jitter, shareOf, burst, backlogAfter, delayAfter, delaysBelow, known, backlog, delay}
+use Rattle.rules.specs.Sound.{Sound, Climbs}
 use Rattle.rules.proofs.Sums.{sum-has, sum-none, sum-same, none-some}
-use Rattle.rules.proofs.Orders.{bool-cases}
-use Rattle.rules.proofs.Prices.{price-least}
-use Rattle.rules.proofs.Routes.{along-same}
+use Rattle.rules.proofs.Machine.Orders.{bool-cases}
+use Rattle.rules.proofs.Price.{price-least}
+use Rattle.rules.proofs.Bounds.Routes.{along-same}
 
 delays-length : (t : View) (w : ℕ) → length (delaysBelow t w) ≡ w
 unfolding delaysBelow
@@ -60,21 +61,20 @@ prices-least t sound k l = price-least (t .framing k) (t .payload k) (sound .fra
 
 -- a wire that a route uses has a delay
 pub delay-least : (t : View) → Sound t → (w k : ℕ) → w < t .wires → k < t .channels → on t w k ≡ true → 1 ≤ delay t w
-unfolding delay delayAfter backlogAfter shareOf
+unfolding delay delayAfter backlogAfter burst shareOf
 delay-least t sound w k lw lk there =
-    let shares = sum (shareOf t (known t w) w) (t .channels) in
     let share : cost t k * t .hyper ≤ shareOf t (known t w) w k = rw there (omega arith) in
     let dear : smallFrame * t .hyper ≤ cost t k * t .hyper = mul-le-mul-right (t .hyper) (prices-least t sound k lk) in
-    let some : 1 ≤ shares / t .hyper = le-div-iff-mul-le (sound .hyper-least) .1 (omega (arith, sum-has (shareOf t (known t w) w) (t .channels) k lk)) in
+    let some : 1 ≤ burst t (known t w) w / t .hyper = le-div-iff-mul-le (sound .hyper-least) .1 (omega (arith, sum-has (shareOf t (known t w) w) (t .channels) k lk)) in
     le-div-iff-mul-le (sound .rate-least w lw) .1 (omega (arith, some, sound .rate-least w lw))
 
 -- A wire that carries channels has K more delay than its channels' shares alone give it.
 pub delay-held :
     (t : View) (w : ℕ) → 1 ≤ t .rate w → carries t w ≡ true →
-    delay t w ≡ up (sum (shareOf t (known t w) w) (t .channels) / t .hyper) (t .rate w) + K t w
+    delay t w ≡ up (burst t (known t w) w / t .hyper) (t .rate w) + K t w
 unfolding delay delayAfter backlogAfter
 delay-held t w l some =
-    let own = sum (shareOf t (known t w) w) (t .channels) / t .hyper in
+    let own = burst t (known t w) w / t .hyper in
     let together : own + t .rate w * K t w + (t .rate w - 1) ≡ own + (t .rate w - 1) + t .rate w * K t w = omega arith in
     rw (some, together) (add-mul-div-left (own + (t .rate w - 1)) (K t w) l)
 
@@ -93,9 +93,9 @@ delay-carries t w l some =
 pub unused :
     (t : View) (w : ℕ) → 1 ≤ t .hyper → 1 ≤ t .rate w → ((k : ℕ) → k < t .channels → on t w k ≡ false) →
     (backlog t w ≡ 0) × (delay t w ≡ 0)
-unfolding backlog delay delayAfter backlogAfter shareOf
+unfolding backlog delay delayAfter backlogAfter burst shareOf
 unused t w h l off =
-    let none : sum (shareOf t (known t w) w) (t .channels) ≡ 0 =
+    let none : burst t (known t w) w ≡ 0 =
     sum-same (shareOf t (known t w) w) (λ k. 0) (t .channels) (λ k lk. rw (off k lk) refl) ∙ sum-none (t .channels) in
     let no-backlog : backlogAfter t (known t w) w ≡ 0 =
     rw (none, none-some (on t w) (t .channels) off) (omega (arith, div-eq-of-lt h)) in

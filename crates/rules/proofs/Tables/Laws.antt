@@ -8,12 +8,13 @@ use lib.ListN.{length, getD}
 use lib.Dec.{ltb, eqb}
 use Rattle.bits.proofs.Laws.{field-lt}
 use Rattle.rules.specs.Words.{up}
-use Rattle.rules.specs.Numbers.{rates, hyperMost, wiresMost, channelsMost, hopsMost, headBits, wireBits, fixedBits, hopBits}
+use Rattle.rules.specs.Numbers.{rates, hyperMost, wiresMost, channelsMost, payloadMost, hopsMost, headBits, wireBits, fixedBits, hopBits}
 use Rattle.rules.specs.Replies.{Reply, granted, refused, test, each}
 use Rattle.rules.specs.Table.{viewOf, hyperOf, wiresOf, channelsOf, wireAt, codeOf, rateOf, channelAt, framingAt, payloadAt, periodAt, hopsAt, routeAt, endOf, fillingOf}
-use Rattle.rules.specs.Reading.{headTests, wireTests, hopTests, divides, recordTests, channelTests, fillingTests, readingTests, reading}
+use Rattle.rules.specs.Channel.{divides, valueTests, hopTests}
+use Rattle.rules.specs.Reading.{headTests, wireTests, recordTests, channelTests, fillingTests, readingTests, reading}
 use Rattle.rules.proofs.Tests.{Gate, through, gate-granted, gate-refused, gate-through, gate-iff, gate-then, le-gate, lt-gate, eq-gate, both-gate, between-gate, all-gate}
-use Rattle.rules.proofs.Sound.{Climbs, Sound}
+use Rattle.rules.specs.Sound.{Climbs, Sound}
 
 -- 1 to 4
 pub record HeadPasses (s : List ℕ) : Type 0 where
@@ -30,14 +31,19 @@ pub record WirePasses (s : List ℕ) (w : ℕ) : Type 0 where
   pub inside : wireAt w + wireBits ≤ 8 * length s
   pub code-lt : codeOf s w < length rates
 
+-- 6 to 8
+pub record ValuesPass (hyper payload period hops : ℕ) : Type 0 where
+  pub payload-least : 1 ≤ payload
+  pub payload-most : payload ≤ payloadMost
+  pub period-least : 1 ≤ period
+  pub divided : hyper % period ≡ 0
+  pub hops-least : 1 ≤ hops
+  pub hops-most : hops ≤ hopsMost
+
 -- 1 and 6 to 10, of the record that starts at bit `at`
 pub record RecordPasses (s : List ℕ) (at : ℕ) : Type 0 where
   pub inside : at + fixedBits ≤ 8 * length s
-  pub payload-least : 1 ≤ payloadAt s at
-  pub period-least : 1 ≤ periodAt s at
-  pub divided : hyperOf s % periodAt s at ≡ 0
-  pub hops-least : 1 ≤ hopsAt s at
-  pub hops-most : hopsAt s at ≤ hopsMost
+  pub values : ValuesPass (hyperOf s) (payloadAt s at) (periodAt s at) (hopsAt s at)
   pub route-inside : at + fixedBits + hopBits * hopsAt s at ≤ 8 * length s
   pub climbs : Climbs (wiresOf s) 0 (routeAt s (at + fixedBits) (hopsAt s at))
 
@@ -84,6 +90,22 @@ module _ (s : List ℕ) where
 pub divides-gate : (n p a b : ℕ) → Gate ((0 < a) × (b % a ≡ 0)) (test (divides a b) n p)
 divides-gate n p a b = both-gate n p (ltb 0 a) (eqb (b % a) 0) (lt-gate n p 0 a) (eq-gate n p (b % a) 0)
 
+pub value-gate : (c hyper payload period hops : ℕ) → Gate (ValuesPass hyper payload period hops) (valueTests c hyper payload period hops)
+unfolding valueTests
+value-gate c hyper payload period hops =
+    gate-iff
+    (λ h. record {
+      payload-least = h .0 .0;
+      payload-most = h .0 .1;
+      period-least = h .1 .0 .0;
+      divided = h .1 .0 .1;
+      hops-least = h .1 .1 .0;
+      hops-most = h .1 .1 .1;
+    })
+    (λ r. ((r .payload-least, r .payload-most), ((r .period-least, r .divided), (r .hops-least, r .hops-most))))
+    (gate-then (between-gate 6 c 1 payload payloadMost)
+    (gate-then (divides-gate 7 c period hyper) (between-gate 8 c 1 hops hopsMost)))
+
 pub hop-gate : (n c least : ℕ) (xs : List ℕ) → Gate (Climbs n least xs) (hopTests n c least xs)
 unfolding hopTests
 hop-gate n c least [] = through tt (λ rest. refl)
@@ -96,22 +118,11 @@ module _ (s : List ℕ) where
   unfolding recordTests
   record-gate c at =
       gate-iff
-      (λ h. record {
-        inside = h .0;
-        payload-least = h .1 .0;
-        period-least = h .1 .1 .0 .0;
-        divided = h .1 .1 .0 .1;
-        hops-least = h .1 .1 .1 .0 .0;
-        hops-most = h .1 .1 .1 .0 .1;
-        route-inside = h .1 .1 .1 .1 .0;
-        climbs = h .1 .1 .1 .1 .1;
-      })
-      (λ r. (r .inside, (r .payload-least, ((r .period-least, r .divided), ((r .hops-least, r .hops-most), (r .route-inside, r .climbs))))))
+      (λ h. record { inside = h .0; values = h .1 .0; route-inside = h .1 .1 .0; climbs = h .1 .1 .1 })
+      (λ r. (r .inside, (r .values, (r .route-inside, r .climbs))))
       (gate-then (le-gate 1 0 _ _)
-      (gate-then (lt-gate 6 c _ _)
-      (gate-then (divides-gate 7 c _ _)
-      (gate-then (between-gate 8 c _ _ _)
-      (gate-then (le-gate 1 0 _ _) (hop-gate _ c 0 _))))))
+      (gate-then (value-gate c _ _ _ _)
+      (gate-then (le-gate 1 0 _ _) (hop-gate _ c 0 _))))
 
   pub channel-gate : (c : ℕ) → Gate (RecordPasses s (channelAt s c)) (channelTests s c)
   unfolding channelTests
@@ -178,10 +189,6 @@ module _ (s : List ℕ) where
   unfolding framingAt
   framing-lt at = field-lt s at 1
 
-  payload-lt : (at : ℕ) → payloadAt s at < 65536
-  unfolding payloadAt
-  payload-lt at = field-lt s _ 16
-
   pub passes-sound : FieldsPass s → Sound (viewOf s)
   passes-sound r =
       record {
@@ -194,12 +201,12 @@ module _ (s : List ℕ) where
         rate-least = λ w l. rate-range w (r .wire w l .code-lt) .0;
         rate-most = λ w l. rate-range w (r .wire w l .code-lt) .1;
         framing-most = λ k l. omega (arith, framing-lt (channelAt s k));
-        payload-least = λ k l. r .channel k l .payload-least;
-        payload-most = λ k l. omega (arith, payload-lt (channelAt s k));
-        period-least = λ k l. r .channel k l .period-least;
-        divides = λ k l. omega (arith, div-add-mod' (hyperOf s) (periodAt s (channelAt s k)), r .channel k l .divided);
-        hops-least = λ k l. rw length-route (r .channel k l .hops-least);
-        hops-most = λ k l. rw length-route (r .channel k l .hops-most);
+        payload-least = λ k l. r .channel k l .values .payload-least;
+        payload-most = λ k l. r .channel k l .values .payload-most;
+        period-least = λ k l. r .channel k l .values .period-least;
+        divides = λ k l. omega (arith, div-add-mod' (hyperOf s) (periodAt s (channelAt s k)), r .channel k l .values .divided);
+        hops-least = λ k l. rw length-route (r .channel k l .values .hops-least);
+        hops-most = λ k l. rw length-route (r .channel k l .values .hops-most);
         climbs = λ k l. r .channel k l .climbs;
       }
 

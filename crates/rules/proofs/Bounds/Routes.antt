@@ -10,9 +10,9 @@ use lib.Dec.{eqb}
 use lib.ListN.{length}
 use borrow.Author.Tests.{eq-eqb, ne-eqb}
 use Rattle.rules.specs.Words.{total, has}
-use Rattle.rules.specs.Table.{Source, nowhere, release, wire, after, source, lastWire}
+use Rattle.rules.specs.Table.{Source, nowhere, release, wire, sourceAfter, source, lastWire}
 use Rattle.rules.specs.Bounds.{along}
-use Rattle.rules.proofs.Sound.{Climbs}
+use Rattle.rules.specs.Sound.{Climbs}
 
 true-false : true ≡ false → ⊥
 true-false e = let z : _≡_ {A = ℕ} 0 1 = cc in omega arith
@@ -78,8 +78,8 @@ pub record Begins (xs : List ℕ) (w : ℕ) : Type 0 where
   pub from : source xs w ≡ release
   pub adds : (f : ℕ → ℕ) → along f xs w ≡ 0
 
-nowhere-after : (v w : ℕ) (xs : List ℕ) → has w xs ≡ false → after v xs w ≡ nowhere
-unfolding has after
+nowhere-after : (v w : ℕ) (xs : List ℕ) → has w xs ≡ false → sourceAfter v xs w ≡ nowhere
+unfolding has sourceAfter
 nowhere-after v w [] h = refl
 nowhere-after v w (x ∷ xs) h =
     elim (ℕ-discrete x w) [
@@ -105,8 +105,8 @@ unfolding along
 along-past f x w xs d = rw (ne-eqb x w d) refl
 
 follows-after :
-    (n w x : ℕ) (xs : List ℕ) → Climbs n (suc x) xs → has w xs ≡ true → (v : ℕ) × Follows (x ∷ xs) (after x xs w) v w
-unfolding has after
+    (n w x : ℕ) (xs : List ℕ) → Climbs n (suc x) xs → has w xs ≡ true → (v : ℕ) × Follows (x ∷ xs) (sourceAfter x xs w) v w
+unfolding has sourceAfter
 follows-after n w x [] c h = absurd (true-false (sym h))
 follows-after n w x (y ∷ ys) c h =
     elim (ℕ-discrete y w) [

@@ -13,11 +13,11 @@ use Rattle.rules.specs.Price.{frames}
 use Rattle.rules.specs.Table.{View, Source, nowhere, release, wire, source}
 use Rattle.rules.specs.Bounds.{along}
 use Rattle.rules.specs.Machine.{Frame, Releases, message, ofChannel, bornIn, Gone, reaching, dueFrom, due, AnyOrder}
-use Rattle.rules.proofs.Sound.{Climbs}
+use Rattle.rules.specs.Sound.{Climbs}
 use Rattle.rules.proofs.Sums.{ascend, sum-same, sum-swap, sum-alone, sum-none, sum-grows, total-append, total-same, total-none, total-map, total-gathered}
-use Rattle.rules.proofs.Orders.{any-order-total}
-use Rattle.rules.proofs.Routes.{Follows, Begins, follows, climbs-below}
-use Rattle.rules.proofs.Server.{before, Passes}
+use Rattle.rules.proofs.Machine.Orders.{any-order-total}
+use Rattle.rules.proofs.Bounds.Routes.{Follows, Begins, follows, climbs-below}
+use Rattle.rules.proofs.Machine.Server.{before, Passes}
 
 -- g, of the frames of channel k
 abbrev pub own : ℕ → (Frame → ℕ) → Frame → ℕ

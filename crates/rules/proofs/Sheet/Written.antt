@@ -11,9 +11,9 @@ use Rattle.rules.specs.Decoded.{column}
 use Rattle.rules.specs.Bounds.{backlog, delay, endToEnd}
 use Rattle.rules.specs.Sheet.{withWires, withChannels, sheetOf}
 use Rattle.rules.specs.Judgement.{lengthOf, sheet, leaves}
-use Rattle.rules.proofs.Columns.{column-at}
-use Rattle.rules.proofs.SheetLaws.{Fits}
-use Rattle.rules.proofs.Asking.{FitsSheet}
+use Rattle.rules.proofs.Tables.Columns.{column-at}
+use Rattle.rules.specs.Fits.{Fits}
+use Rattle.rules.proofs.Sheet.Asking.{FitsSheet}
 
 abbrev pub Same : ℕ → (ℕ → ℕ) → (ℕ → ℕ) → Type 0
 Same n f g = (i : ℕ) → i < n → f i ≡ g i

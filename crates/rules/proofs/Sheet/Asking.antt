@@ -15,8 +15,9 @@ use Rattle.rules.specs.Bounds.{backlog, delay, endToEnd}
 use Rattle.rules.specs.Sheet.{endAt, sheetLength, sheetOf, sheetWires, sheetChannels, sheetTests, askWire, askChannel}
 use Rattle.rules.specs.Judgement.{lengthOf, judge, sheet, leaves, buffer}
 use Rattle.rules.specs.Incident.{Always, NoSheet, Answers, AnswersOf, LeavesNoSheet}
-use Rattle.rules.proofs.SheetReplies.{Counted, tests-short, tests-length, tests-pass}
-use Rattle.rules.proofs.SheetLaws.{Fits, sheet-shortest, length-sheetOf, bytes-sheetOf, filling-sheetOf, wires-sheetOf, channels-sheetOf, backlog-sheetOf, delay-sheetOf, end-sheetOf}
+use Rattle.rules.proofs.Sheet.Replies.{Counted, tests-short, tests-length, tests-pass}
+use Rattle.rules.specs.Fits.{Fits}
+use Rattle.rules.proofs.Sheet.Laws.{sheet-shortest, length-sheetOf, bytes-sheetOf, filling-sheetOf, wires-sheetOf, channels-sheetOf, backlog-sheetOf, delay-sheetOf, end-sheetOf}
 
 always : (s : List ℕ) (r : Reply) → ((rest : Reply) → sheetTests s rest ≡ r) → Always s r
 unfolding askWire askChannel

@@ -10,17 +10,8 @@ use Rattle.bits.specs.Field.{field, putField, Bytes}
 use Rattle.bits.proofs.Laws.{length-putField, field-putField, field-putField-other, field-zeros, bytes-putField}
 use Rattle.rules.specs.Numbers.{wiresBits, wiresMost, channelsBits, channelsMost, backlogBits, delayBits, endBits, sheetLongest}
 use Rattle.rules.specs.Table.{fillingOf}
+use Rattle.rules.specs.Fits.{Fits}
 use Rattle.rules.specs.Sheet.{figuresAt, endAt, sheetLength, withHead, withWires, withChannels, sheetOf, sheetWires, sheetChannels}
-
--- counts within their ranges, and figures that fit their fields
-pub record Fits (n m : ℕ) (b d e : ℕ → ℕ) : Type 0 where
-  pub wires-least : 1 ≤ n
-  pub wires-most : n ≤ wiresMost
-  pub channels-least : 1 ≤ m
-  pub channels-most : m ≤ channelsMost
-  pub backlog-fits : (w : ℕ) → w < n → b w < 2 ^ backlogBits
-  pub delay-fits : (w : ℕ) → w < n → d w < 2 ^ delayBits
-  pub end-fits : (k : ℕ) → k < m → e k < 2 ^ endBits
 
 -- ---- writing from one place to another
 

@@ -8,10 +8,10 @@ use Rattle.rules.specs.Replies.{granted}
 use Rattle.rules.specs.Table.{viewOf}
 use Rattle.rules.specs.Judgement.{judge}
 use Rattle.rules.specs.Incident.{GivesBack}
-use Rattle.rules.proofs.SheetLaws.{sheet-longest}
-use Rattle.rules.proofs.JudgementLaws.{judge-accepted}
-use Rattle.rules.proofs.Asking.{accepted-asked, accepted-whole}
-use Rattle.rules.proofs.Fits.{fits-view}
+use Rattle.rules.proofs.Sheet.Laws.{sheet-longest}
+use Rattle.rules.proofs.Bounds.Judgement.{judge-accepted}
+use Rattle.rules.proofs.Sheet.Asking.{accepted-asked, accepted-whole}
+use Rattle.rules.proofs.Sheet.Fits.{fits-view}
 
 pub accepted-answers : GivesBack
 accepted-answers s lent length e =

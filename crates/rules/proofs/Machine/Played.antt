@@ -11,9 +11,9 @@ use lib.Seq.{getD-append-add}
 use borrow.Author.Tests.{le-leb, lt-leb}
 use Rattle.rules.specs.Words.{listed, gathered, cut}
 use Rattle.rules.specs.Table.{View, Source, nowhere, release, wire, source}
-use Rattle.rules.specs.Bounds.{K}
+use Rattle.rules.specs.Office.{K}
 use Rattle.rules.specs.Machine.{Frame, Waiting, whole, Releases, Gone, ofChannel, reaching, dueFrom, due, AnyOrder, sent, kept, joined, Holding, sending, Run, Allowed, nobody, Order, Choice, queueIn, heldIn, goneIn, arrivals, holding, step, played}
-use Rattle.rules.proofs.Columns.{length-listed, getD-listed}
+use Rattle.rules.proofs.Tables.Columns.{length-listed, getD-listed}
 
 pub gathered-same : {A : Type 0} (f g : ℕ → List A) (n : ℕ) → ((i : ℕ) → i < n → f i ≡ g i) → gathered f n ≡ gathered g n
 unfolding gathered

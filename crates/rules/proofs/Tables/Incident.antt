@@ -16,11 +16,12 @@ use Rattle.rules.specs.Words.{up, between}
 use Rattle.rules.specs.Numbers.{rates, hyperBits, hyperMost, wiresBits, wiresMost, channelsBits, channelsMost, headBits, rateBits, propBits, roomBits, wireBits, framingBits, payloadBits, periodBits, deadlineBits, hopsBits, hopsMost, fixedBits, hopBits, tableLongest}
 use Rattle.rules.specs.Replies.{Reply, granted, refused, test, each}
 use Rattle.rules.specs.Table.{View, viewOf, hyperOf, wiresOf, channelsOf, wireAt, codeOf, rateOf, propOf, roomOf, channelAt, framingAt, payloadAt, periodAt, deadlineAt, hopsAt, routeAt, endOf, fillingOf}
-use Rattle.rules.specs.Reading.{headTests, wireTests, hopTests, divides, recordTests, channelTests, fillingTests, readingTests, reading}
+use Rattle.rules.specs.Channel.{valueTests, hopTests}
+use Rattle.rules.specs.Reading.{headTests, wireTests, recordTests, channelTests, fillingTests, readingTests, reading}
 use Rattle.rules.specs.Judgement.{judge}
 use Rattle.rules.specs.Incident.{PrefixesRefused, ExtensionsRefused, LongerAlike, SameView, OneString}
 use Rattle.rules.proofs.Tests.{Through, Stops, Gate, through, stops, gate-through, lt-gate, between-gate}
-use Rattle.rules.proofs.ReadingLaws.{HeadPasses, Passes, divides-gate, hop-gate, fieldsTests, fields-gate, reading-passes, length-route, end-inside, length-told}
+use Rattle.rules.proofs.Tables.Laws.{HeadPasses, Passes, value-gate, hop-gate, fieldsTests, fields-gate, reading-passes, length-route, end-inside, length-told}
 
 -- ---- two chains of tests side by side
 
@@ -146,15 +147,17 @@ module _ (s : List ℕ) (k : ℕ) (le : k ≤ length s) where
       let head = head-fields i in
       alike-then (within-alike at fixedBits fixedBits refl (omega arith)) (λ l.
       let same = fixed-fields at l in
-      alike-then (test-alike 6 c (lt-gate 6 c 0 (payloadAt s at)) (ap (λ (x : ℕ). ltb 0 x) (same .0))) (λ _.
-      alike-then (test-alike 7 c (divides-gate 7 c (periodAt s at) (hyperOf s)) (ap₂ divides (same .1) (head .0))) (λ _.
-      alike-then (test-alike 8 c (between-gate 8 c 1 (hopsAt s at) hopsMost) (ap (λ (x : ℕ). between 1 x hopsMost) (same .2))) (λ h.
+      alike-then
+      (gate-alike
+      {g = valueTests c (hyperOf (take k s)) (payloadAt (take k s) at) (periodAt (take k s) at) (hopsAt (take k s) at)}
+      (value-gate c (hyperOf s) (payloadAt s at) (periodAt s at) (hopsAt s at))
+      (λ rest. rw (head .0, same .0, same .1, same .2))) (λ h.
       alike-then (within-alike (at + fixedBits) (hopBits * hopsAt s at) (hopBits * hopsAt (take k s) at) (ap (λ (x : ℕ). hopBits * x) (same .2)) (omega arith)) (λ m.
-      alike-map (λ _. (same .2, h .1, m))
+      alike-map (λ _. (same .2, h .hops-most, m))
       (gate-alike
       {g = hopTests (wiresOf (take k s)) c 0 (routeAt (take k s) (at + fixedBits) (hopsAt (take k s) at))}
       (hop-gate (wiresOf s) c 0 (routeAt s (at + fixedBits) (hopsAt s at)))
-      (λ rest. rw (head .1, same .2, route-fields (at + fixedBits) (hopsAt s at) m))))))))
+      (λ rest. rw (head .1, same .2, route-fields (at + fixedBits) (hopsAt s at) m))))))
 
   channel-alike : headBits ≤ 8 * k → (c : ℕ) → c < channelsMost → Reached s (take k s) k c
       → Alike (Reached s (take k s) k (suc c)) (8 * k < longestEnd) (channelTests s c) (channelTests (take k s) c)

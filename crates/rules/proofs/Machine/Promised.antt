@@ -6,9 +6,9 @@ use Rattle.rules.specs.Table.{View, viewOf}
 use Rattle.rules.specs.Bounds.{backlog, delay, endToEnd}
 use Rattle.rules.specs.Machine.{Releases, Run, Allowed, nobody}
 use Rattle.rules.specs.Promise.{Promise, PromiseAlone}
-use Rattle.rules.proofs.JudgementLaws.{judge-accepted}
-use Rattle.rules.proofs.AcceptedSheet.{accepted-answers}
-use Rattle.rules.proofs.Figures.{backlog-holds, left-within, delivered-whole}
+use Rattle.rules.proofs.Bounds.Judgement.{judge-accepted}
+use Rattle.rules.proofs.Sheet.Accepted.{accepted-answers}
+use Rattle.rules.proofs.Machine.Figures.{backlog-holds, left-within, delivered-whole}
 
 pub promise : Promise
 promise s lent length e released keeps held run allowed =

@@ -1,4 +1,4 @@
--- What a view is that passed tests 1 to 11: the facts that the proofs use.
+-- What a view is that passed tests 1 to 11.
 use mathlib.Core.Path.{_≡_}
 use mathlib.Core.List.{List, [], _∷_}
 use Prim.Native.Nat.{ℕ, suc, _*_, _≤_, _<_}

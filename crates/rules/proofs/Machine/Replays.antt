@@ -9,8 +9,8 @@ use lib.Dec.{ltb, eqb}
 use Rattle.rules.specs.Words.{total, listed, only}
 use Rattle.rules.specs.Table.{View, viewOf}
 use Rattle.rules.specs.Machine.{Frame, Waiting, Releases, message, Gone, delivered, Order, Choice, State, queueIn, heldIn, goneIn, arrivals, joined, bytes, step, played}
-use Rattle.rules.proofs.Orders.{same}
-use Rattle.rules.proofs.Witnesses.{definitions}
+use Rattle.rules.proofs.Machine.Orders.{same}
+use Rattle.rules.proofs.Machine.Witnesses.{definitions}
 
 abbrev frame : ℕ → ℕ → ℕ → Frame
 frame channel born size = record { channel = channel; born = born; size = size }

@@ -8,8 +8,8 @@ use Rattle.rules.specs.Words.{up}
 use Rattle.rules.specs.Numbers.{roomBits, deadlineBits}
 use Rattle.rules.specs.Table.{View, viewOf, roomOf, deadlineAt}
 use Rattle.rules.specs.Bounds.{backlog, delay, delayAfter, endToEnd}
-use Rattle.rules.proofs.Sound.{Sound}
-use Rattle.rules.proofs.Asking.{FitsSheet}
+use Rattle.rules.specs.Sound.{Sound}
+use Rattle.rules.proofs.Sheet.Asking.{FitsSheet}
 
 pub up-le : (a b : ℕ) → 1 ≤ b → up a b ≤ a
 up-le a b l =

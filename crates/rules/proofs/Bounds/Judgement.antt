@@ -8,10 +8,15 @@ use Rattle.rules.specs.Replies.{Reply, granted, refused, test}
 use Rattle.rules.specs.Table.{View, viewOf}
 use Rattle.rules.specs.Reading.{readingTests, reading}
 use Rattle.rules.specs.Bounds.{load, backlog, endToEnd}
-use Rattle.rules.specs.Judgement.{loadTest, roomTest, deadlineTest, boundsTests, lengthOf, judge}
+use Rattle.rules.specs.Judgement.{loadTest, roomTest, deadlineTest, boundsTests, deadlineTests, lengthOf, judge}
 use Rattle.rules.proofs.Tests.{Gate, through, stops, gate-granted, gate-through, gate-iff, gate-then, le-gate, all-gate}
-use Rattle.rules.proofs.Sound.{Sound}
-use Rattle.rules.proofs.ReadingLaws.{Passes, passes-sound, reading-gate, reading-refused}
+use Rattle.rules.specs.Sound.{Sound}
+use Rattle.rules.proofs.Tables.Laws.{Passes, passes-sound, reading-gate, reading-refused}
+
+-- 12 and 13
+pub record Carried (t : View) : Type 0 where
+  pub loads : (w : ℕ) → w < t .wires → load t w ≤ t .rate w * t .hyper
+  pub backlogs : (w : ℕ) → w < t .wires → backlog t w ≤ t .room w
 
 -- 12 to 14
 pub record Bounded (t : View) : Type 0 where
@@ -38,17 +43,27 @@ module _ (t : View) where
   unfolding deadlineTest
   deadline-gate k = le-gate 14 k (endToEnd t k) (t .deadline k)
 
-  pub bounds-gate : Gate (Bounded t) (boundsTests t)
+  pub carried-gate : Gate (Carried t) (boundsTests t)
   unfolding boundsTests
-  bounds-gate =
-      gate-iff (λ h. record { loads = h .0; backlogs = h .1 .0; ends = h .1 .1 }) (λ r. (r .loads, (r .backlogs, r .ends)))
+  carried-gate =
+      gate-iff (λ h. record { loads = h .0; backlogs = h .1 }) (λ r. (r .loads, r .backlogs))
       (gate-then (all-gate (λ w. load t w ≤ t .rate w * t .hyper) (loadTest t) load-gate (t .wires))
-      (gate-then (all-gate (λ w. backlog t w ≤ t .room w) (roomTest t) room-gate (t .wires))
-      (all-gate (λ k. endToEnd t k ≤ t .deadline k) (deadlineTest t) deadline-gate (t .channels))))
+      (all-gate (λ w. backlog t w ≤ t .room w) (roomTest t) room-gate (t .wires)))
+
+  pub deadlines-gate : Gate ((k : ℕ) → k < t .channels → endToEnd t k ≤ t .deadline k) (deadlineTests t)
+  unfolding deadlineTests
+  deadlines-gate = all-gate (λ k. endToEnd t k ≤ t .deadline k) (deadlineTest t) deadline-gate (t .channels)
+
+  pub bounds-gate : Gate (Bounded t) (λ rest. boundsTests t (deadlineTests t rest))
+  bounds-gate =
+      gate-iff (λ h. record { loads = h .0 .loads; backlogs = h .0 .backlogs; ends = h .1 })
+      (λ r. (record { loads = r .loads; backlogs = r .backlogs }, r .ends))
+      (gate-then carried-gate deadlines-gate)
 
 -- all tests of the judgement
 abbrev pub judgeTests : List ℕ → ℕ → Reply → Reply
-judgeTests s lent rest = readingTests s (boundsTests (viewOf s) (test (leb (lengthOf (viewOf s)) lent) 15 0 rest))
+judgeTests s lent rest =
+    readingTests s (boundsTests (viewOf s) (deadlineTests (viewOf s) (test (leb (lengthOf (viewOf s)) lent) 15 0 rest)))
 
 module _ (s : List ℕ) (lent : ℕ) where
   pub judge-gate : Gate (Accepted s lent) (judgeTests s lent)

@@ -5,7 +5,7 @@ use native.Mathlib.Omega.{arith}
 use Rattle.rules.specs.Words.{sum}
 use Rattle.rules.specs.Machine.{Waiting, Frame, bytes, joined}
 use Rattle.rules.proofs.Sums.{ascend}
-use Rattle.rules.proofs.Server.{Server, Bursts, Passes, unsent-most, passes}
+use Rattle.rules.proofs.Machine.Server.{Server, Bursts, Passes, unsent-most, passes}
 
 module _
     (wires : ℕ) (rate : ℕ → ℕ) (room block extra : ℕ → ℕ → ℕ) (queue : ℕ → ℕ → List Waiting) (arrived gone : ℕ → ℕ → List Frame)

@@ -11,13 +11,15 @@ use lib.ListN.{length, getD}
 use lib.Dec.{leb, ltb, eqb}
 use borrow.Author.Tests.{lt-leb, le-ltb, ne-eqb}
 use Rattle.bits.specs.Field.{field}
+use Rattle.bits.proofs.Laws.{field-lt}
 use Rattle.rules.specs.Words.{between, up}
-use Rattle.rules.specs.Numbers.{rates, hyperMost, wiresMost, channelsMost, hopsMost, headBits, wireBits, fixedBits, hopBits}
+use Rattle.rules.specs.Numbers.{rates, hyperMost, wiresMost, channelsMost, payloadMost, framingBits, payloadBits, hopsMost, headBits, wireBits, fixedBits, hopBits}
 use Rattle.rules.specs.Replies.{Reply, test, each}
 use Rattle.rules.specs.Table.{hyperOf, wiresOf, channelsOf, wireAt, codeOf, channelAt, payloadAt, periodAt, hopsAt, routeAt, endOf, fillingOf}
-use Rattle.rules.specs.Reading.{headTests, wireTests, hopTests, divides, recordTests, channelTests, fillingTests}
+use Rattle.rules.specs.Channel.{divides, valueTests, hopTests, routeTests}
+use Rattle.rules.specs.Reading.{headTests, wireTests, recordTests, channelTests, fillingTests}
 use Rattle.rules.proofs.Tests.{Through, Stops, gate-through, le-gate, lt-gate, between-gate}
-use Rattle.rules.proofs.ReadingLaws.{divides-gate, filling-gate}
+use Rattle.rules.proofs.Tables.Laws.{divides-gate, value-gate, filling-gate}
 
 -- ---- one test
 
@@ -188,52 +190,74 @@ module _ (s : List ℕ) (w : ℕ) where
   unfolding wireTests
   wire-passes inside l rest = gate-through (le-gate 1 0 _ _) inside _ ∙ gate-through (lt-gate 5 w _ _) l _
 
+-- ---- the tests of a channel's values
+
+module _ (c hyper payload period hops : ℕ) where
+  pub values-6 : payload ≤ 0 → Stops (valueTests c hyper payload period hops) 6 c
+  unfolding valueTests
+  values-6 l rest = between-stops 6 c 1 payload payloadMost (inl (omega arith)) _
+
+  module _ (fine : (1 ≤ payload) × (payload ≤ payloadMost)) where
+    pub values-7 : (period ≡ 0) ⊎ (hyper % period ≡ 0 → ⊥) → Stops (valueTests c hyper payload period hops) 7 c
+    unfolding valueTests
+    values-7 o rest = gate-through (between-gate 6 c 1 payload payloadMost) fine _ ∙ divides-stops 7 c period hyper o _
+
+    pub values-8 : (0 < period) × (hyper % period ≡ 0) → Outside 1 hops hopsMost → Stops (valueTests c hyper payload period hops) 8 c
+    unfolding valueTests
+    values-8 divided o rest =
+        gate-through (between-gate 6 c 1 payload payloadMost) fine _
+        ∙ gate-through (divides-gate 7 c period hyper) divided _
+        ∙ between-stops 8 c 1 hops hopsMost o _
+
+-- ---- the tests of a record
+
+pub payload-small : (s : List ℕ) (at : ℕ) → payloadAt s at ≤ payloadMost
+unfolding payloadAt
+payload-small s at = omega (arith, field-lt s (at + framingBits) payloadBits)
+
 module _ (s : List ℕ) (c at : ℕ) where
   pub record-1 : 8 * length s < at + fixedBits → Stops (recordTests s c at) 1 0
   unfolding recordTests
   record-1 l rest = le-stops 1 0 _ _ l _
 
   module _ (inside : at + fixedBits ≤ 8 * length s) where
-    pub record-6 : payloadAt s at ≤ 0 → Stops (recordTests s c at) 6 c
+    -- what the values are refused for, the record is
+    record-stops : {n p : ℕ} → Stops (valueTests c (hyperOf s) (payloadAt s at) (periodAt s at) (hopsAt s at)) n p → Stops (recordTests s c at) n p
     unfolding recordTests
-    record-6 l rest = gate-through (le-gate 1 0 _ _) inside _ ∙ lt-stops 6 c _ _ l _
+    record-stops h rest = gate-through (le-gate 1 0 _ _) inside _ ∙ h _
+
+    pub record-6 : payloadAt s at ≤ 0 → Stops (recordTests s c at) 6 c
+    record-6 l = record-stops (values-6 c _ _ _ _ l)
 
     module _ (payload : 1 ≤ payloadAt s at) where
       pub record-7 : (periodAt s at ≡ 0) ⊎ (hyperOf s % periodAt s at ≡ 0 → ⊥) → Stops (recordTests s c at) 7 c
-      unfolding recordTests
-      record-7 o rest =
-          gate-through (le-gate 1 0 _ _) inside _
-          ∙ gate-through (lt-gate 6 c _ _) payload _
-          ∙ divides-stops 7 c _ _ o _
+      record-7 o = record-stops (values-7 c _ _ _ _ (payload, payload-small s at) o)
 
       module _ (period : (0 < periodAt s at) × (hyperOf s % periodAt s at ≡ 0)) where
         pub record-8 : Outside 1 (hopsAt s at) hopsMost → Stops (recordTests s c at) 8 c
-        unfolding recordTests
-        record-8 o rest =
-            gate-through (le-gate 1 0 _ _) inside _
-            ∙ gate-through (lt-gate 6 c _ _) payload _
-            ∙ gate-through (divides-gate 7 c _ _) period _
-            ∙ between-stops 8 c _ _ _ o _
+        record-8 o = record-stops (values-8 c _ _ _ _ (payload, payload-small s at) period o)
 
         module _ (hops : (1 ≤ hopsAt s at) × (hopsAt s at ≤ hopsMost)) where
+          values : Through (valueTests c (hyperOf s) (payloadAt s at) (periodAt s at) (hopsAt s at))
+          values =
+              gate-through (value-gate c _ _ _ _)
+              (record {
+                payload-least = payload;
+                payload-most = payload-small s at;
+                period-least = period .0;
+                divided = period .1;
+                hops-least = hops .0;
+                hops-most = hops .1;
+              })
+
           pub record-route : 8 * length s < at + fixedBits + hopBits * hopsAt s at → Stops (recordTests s c at) 1 0
           unfolding recordTests
-          record-route l rest =
-              gate-through (le-gate 1 0 _ _) inside _
-              ∙ gate-through (lt-gate 6 c _ _) payload _
-              ∙ gate-through (divides-gate 7 c _ _) period _
-              ∙ gate-through (between-gate 8 c _ _ _) hops _
-              ∙ le-stops 1 0 _ _ l _
+          record-route l rest = gate-through (le-gate 1 0 _ _) inside _ ∙ values _ ∙ le-stops 1 0 _ _ l _
 
           pub record-hops : at + fixedBits + hopBits * hopsAt s at ≤ 8 * length s
-              → (rest : Reply) → recordTests s c at rest ≡ hopTests (wiresOf s) c 0 (routeAt s (at + fixedBits) (hopsAt s at)) rest
+              → (rest : Reply) → recordTests s c at rest ≡ routeTests (wiresOf s) c (routeAt s (at + fixedBits) (hopsAt s at)) rest
           unfolding recordTests
-          record-hops route rest =
-              gate-through (le-gate 1 0 _ _) inside _
-              ∙ gate-through (lt-gate 6 c _ _) payload _
-              ∙ gate-through (divides-gate 7 c _ _) period _
-              ∙ gate-through (between-gate 8 c _ _ _) hops _
-              ∙ gate-through (le-gate 1 0 _ _) route _
+          record-hops route rest = gate-through (le-gate 1 0 _ _) inside _ ∙ values _ ∙ gate-through (le-gate 1 0 _ _) route _
 
 module _ (s : List ℕ) where
   pub channel-record : (c : ℕ) (rest : Reply) → channelTests s c rest ≡ recordTests s c (channelAt s c) rest

@@ -12,19 +12,20 @@ use borrow.Author.Tests.{eq-eqb, ne-eqb}
 use Rattle.rules.specs.Words.{sum, total, only, gathered}
 use Rattle.rules.specs.Price.{price, lastBytes}
 use Rattle.rules.specs.Table.{View, lastWire}
-use Rattle.rules.specs.Bounds.{cost, times, on, carries, K, loadOf, load, shareOf, backlogAfter, known, backlog, delay, endToEnd}
+use Rattle.rules.specs.Office.{K}
+use Rattle.rules.specs.Bounds.{cost, times, on, carries, loadOf, load, shareOf, burst, backlogAfter, known, backlog, delay, endToEnd}
 use Rattle.rules.specs.Machine.{Frame, Releases, Keeps, Holding, Run, Allowed, AnyOrder, message, sending, bytes, unsent, Gone, reaching, delivered, ofChannel}
 use Rattle.rules.specs.Promise.{Among}
-use Rattle.rules.proofs.Sound.{Sound}
+use Rattle.rules.specs.Sound.{Sound}
 use Rattle.rules.proofs.Sums.{sum-le, sum-same, sum-add, sum-scale, sum-none, sum-alone, sum-grows, sum-cut, total-gathered, total-empty, some-none}
-use Rattle.rules.proofs.Orders.{bool-cases, same, any-order-complete, among-complete}
-use Rattle.rules.proofs.Prices.{frames-price, price-grows}
-use Rattle.rules.proofs.Routes.{nowhere-off, last-there, last-total, route-same, along-add, climbs-below}
-use Rattle.rules.proofs.Gaps.{window-most}
-use Rattle.rules.proofs.Delays.{jitter-known, delay-enough, delay-least, delay-carries}
-use Rattle.rules.proofs.Server.{Server, Bursts, Passes, before, sizeOf, balance}
-use Rattle.rules.proofs.Flow.{own, young, into, total-channel, total-born, total-message, message-young, message-other, none-into, reached, came-sum, came-own, flows, window, longer, shortest}
-use Rattle.rules.proofs.Network.{network}
+use Rattle.rules.proofs.Machine.Orders.{bool-cases, same, any-order-complete, among-complete}
+use Rattle.rules.proofs.Price.{frames-price, price-grows}
+use Rattle.rules.proofs.Bounds.Routes.{nowhere-off, last-there, last-total, route-same, along-add, climbs-below}
+use Rattle.rules.proofs.Machine.Gaps.{window-most}
+use Rattle.rules.proofs.Bounds.Delays.{jitter-known, delay-enough, delay-least, delay-carries}
+use Rattle.rules.proofs.Machine.Server.{Server, Bursts, Passes, before, sizeOf, balance}
+use Rattle.rules.proofs.Machine.Flow.{own, young, into, total-channel, total-born, total-message, message-young, message-other, none-into, reached, came-sum, came-own, flows, window, longer, shortest}
+use Rattle.rules.proofs.Machine.Network.{network}
 
 -- A message is priced by its payload.
 message-size : (t : View) (released : Releases) (k r : ℕ) → total sizeOf (message t released k r) ≡ price (t .framing k) (released k r)
@@ -187,13 +188,13 @@ module _
                   omega (arith, ap (λ (x : ℕ). t .hyper * x) none))
             ]
 
-        -- All shares together: the burst rule, with the backlog for burst.
-        shares-most :
+        -- All shares together: what is taken of the burst.
+        burst-most :
             (a d : ℕ) →
             t .hyper * before (run .arrived w) sizeOf (suc (a + d))
-            ≤ t .hyper * before (run .arrived w) sizeOf a + (sum (shareOf t (known t w) w) (t .channels) + d * load t w)
-        unfolding load
-        shares-most a d =
+            ≤ t .hyper * before (run .arrived w) sizeOf a + (burst t (known t w) w + d * load t w)
+        unfolding burst load
+        burst-most a d =
             let came = came-sum t released (run .arrived) (run .gone) (run .any-order) w lw sizeOf in
             let from : ℕ → ℕ → ℕ = λ n k. before (into t released (run .gone) w k) sizeOf n in
             let rest : ℕ → ℕ = λ k. shareOf t (known t w) w k + d * loadOf t w k in
@@ -226,9 +227,8 @@ module _
         burst-rule a d none =
             let x = before (run .arrived w) sizeOf (suc (a + d)) in
             let y = before (run .arrived w) sizeOf a + t .rate w * d in
-            let shares = sum (shareOf t (known t w) w) (t .channels) in
-            let most : x ≤ y + shares / t .hyper =
-            divided (t .hyper) x y shares (sound .hyper-least) (omega (arith, shares-most a d, mul-le-mul-left d (fits w lw))) in
+            let most : x ≤ y + burst t (known t w) w / t .hyper =
+            divided (t .hyper) x y (burst t (known t w) w) (sound .hyper-least) (omega (arith, burst-most a d, mul-le-mul-left d (fits w lw))) in
             omega (arith, most, blocked-most a, sum-none (suc (a + d)))
 
     enough :

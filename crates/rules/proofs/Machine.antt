@@ -1,0 +1,11 @@
+pub mod Complete
+pub mod Figures
+pub mod Flow
+pub mod Gaps
+pub mod Network
+pub mod Orders
+pub mod Played
+pub mod Promised
+pub mod Replays
+pub mod Server
+pub mod Witnesses

@@ -1,0 +1,4 @@
+pub mod Columns
+pub mod Incident
+pub mod Laws
+pub mod Search
