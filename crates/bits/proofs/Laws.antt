@@ -13,7 +13,7 @@ use lib.Dec.{leb}
 use lib.Arith.{digits-lt, digits-mod}
 use lib.Pow.{pow-pos, pow-add, shr-lt, shr-shr, split, high, mod-pow-add}
 use borrow.Author.Tests.{le-leb, leb-true, lt-ltb}
-use Rattle.bits.specs.Field.{bit, field, within, byteWith, putBit, putField, Bytes, widest, served, takenOf, fieldFits, wroteField}
+use Rattle.bits.specs.Field.{bit, field, within, byteWith, putBit, putField, Bytes, widest, served, takenOf, numberOf, fieldFits, wroteField}
 use Rattle.bits.specs.declared.Taken.the-variants.{Number, Nothing}
 
 -- ---- one binary digit of a number
@@ -314,6 +314,9 @@ module _ (s : List ℕ) (at w : ℕ) (narrow : w ≤ widest) (inside : at + w �
 
   pub takenOf-number : takenOf s at w ≡ Number (field s at w)
   takenOf-number = rw served-true
+
+  pub number-is : numberOf (takenOf s at w) ≡ field s at w
+  number-is = ap numberOf takenOf-number
 
   pub fieldFits-true : (v : ℕ) → v < 2 ^ w → fieldFits s at w v ≡ true
   fieldFits-true v l = rw served-true (lt-ltb v (2 ^ w) l)

@@ -49,6 +49,11 @@ served s at w = leb w widest && within s at w
 abbrev pub takenOf : List ℕ → ℕ → ℕ → Taken
 takenOf s at w = cond (served s at w) (Number (field s at w)) Nothing
 
+-- the number that was found, and 0 where nothing was
+abbrev pub numberOf : Taken → ℕ
+numberOf (Number n) = n
+numberOf Nothing = 0
+
 -- the number v can be written to the field
 abbrev pub fieldFits : List ℕ → ℕ → ℕ → ℕ → Bool
 fieldFits s at w v = served s at w && ltb v (2 ^ w)

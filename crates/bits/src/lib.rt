@@ -1,8 +1,8 @@
 // Fields of bits in bytes, most significant bit first.
 ghost use mathlib.Core.Path.{_≡_};
 ghost use Prim.Native.Nat.{_+_, _*_, _≤_, _<_};
-ghost use lib.ListN.{length};
-ghost use Rattle.bits.specs.Field.{bit, field, within, putBit, putField, takenOf, fieldFits, wroteField, widest};
+ghost use lib.ListN.{length, replicate};
+ghost use Rattle.bits.specs.Field.{bit, field, within, putBit, putField, takenOf, numberOf, fieldFits, wroteField, widest};
 
 // The widest field that is served.
 pub const WIDEST: usize = 29;
@@ -13,10 +13,19 @@ pub enum Taken {
     Nothing,
 }
 
-fn wide(x: u8) -> u64
+pub fn wide(x: u8) -> usize
     ensures { λ r. ⌜ r ≡ x ⌝ }
 {
-    x as u64
+    x as usize
+}
+
+// Puts every byte to v.
+pub fn fill(s: &mut [u8], v: u8)
+    ensures { λ _. ⌜ now (s .exit) ≡ replicate (length (now (s .entry))) v ⌝ }
+{
+    for i in 0..s.len() {
+        s[i] = v;
+    }
 }
 
 // Whether the width bits from bit at are all there. Counts in bytes, since at + width can be past the largest usize.
@@ -33,7 +42,7 @@ fn bit_at(s: &[u8], at: usize, k: usize) -> u64
     ensures { λ r. ⌜ r ≡ bit (now (s .entry)) (at + k) ⌝ }
 {
     let i = at % 8 + k;
-    (wide(s[at / 8 + i / 8]) >> (7 - i % 8)) % 2
+    (wide(s[at / 8 + i / 8]) as u64 >> (7 - i % 8)) % 2
 }
 
 // The number in the field.
@@ -62,6 +71,16 @@ pub fn read(s: &[u8], at: usize, width: usize) -> Taken
     Taken::Number(gather(s, at, width))
 }
 
+// The number in the field, and 0 where nothing is found.
+pub fn number(s: &[u8], at: usize, width: usize) -> u64
+    ensures { λ r. ⌜ r ≡ numberOf (takenOf (now (s .entry)) at width) ⌝ }
+{
+    match read(s, at, width) {
+        Taken::Number(n) => n,
+        Taken::Nothing => 0,
+    }
+}
+
 // Puts bit at + k to b: its old value is taken away from the byte, and the new one is added.
 fn put_bit(s: &mut [u8], at: usize, k: usize, b: u64)
     requires { ⌜ k < widest ⌝ }
@@ -72,7 +91,7 @@ fn put_bit(s: &mut [u8], at: usize, k: usize, b: u64)
     let i = at % 8 + k;
     let n = at / 8 + i / 8;
     let place = 7 - i % 8;
-    let x = wide(s[n]);
+    let x = wide(s[n]) as u64;
     s[n] = (x - (((x >> place) % 2) << place) + (b << place)) as u8;
 }
 

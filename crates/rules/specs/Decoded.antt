@@ -1,14 +1,15 @@
--- A table as read: the view's numbers in arrays.
+-- A table as read: the view's numbers in arrays, and its figures.
 use mathlib.Core.List.{List}
 use Prim.Native.Nat.{ℕ, _*_, _/_, _%_}
 use lib.ListN.{length, getD, replicate}
 use lib.Dec.{ltb}
 use Rattle.rules.specs.declared.Table.{Table}
+use Rattle.rules.specs.declared.Figures.{Figures}
 use Rattle.rules.specs.Words.{only, listed}
 use Rattle.rules.specs.Numbers.{wiresMost, channelsMost, hopsMost, routesMost}
 use Rattle.rules.specs.Replies.{Reply, granted, refused}
 use Rattle.rules.specs.Table.{View}
-use Rattle.rules.specs.Bounds.{cost, times}
+use Rattle.rules.specs.Bounds.{cost, times, backlog, delay, endToEnd}
 
 -- f 0, f 1, .. f (n - 1), and 0 from there on, in so many places
 unfoldable pub column : ℕ → ℕ → (ℕ → ℕ) → List ℕ
@@ -54,3 +55,21 @@ noTable =
 unfoldable pub tableLeft : Reply → View → Table
 tableLeft (granted values) t = tableOf t
 tableLeft (refused number place) t = noTable
+
+-- the figures of a view
+unfoldable pub figuresOf : View → Figures
+figuresOf t =
+    record {
+      backlog = column wiresMost (t .wires) (backlog t);
+      delay = column wiresMost (t .wires) (delay t);
+      end = column channelsMost (t .channels) (endToEnd t);
+    }
+
+unfoldable pub noFigures : Figures
+noFigures =
+    record { backlog = replicate wiresMost 0; delay = replicate wiresMost 0; end = replicate channelsMost 0 }
+
+-- what working out the bounds leaves: on a refusal all is 0
+unfoldable pub figuresLeft : Reply → View → Figures
+figuresLeft (granted values) t = figuresOf t
+figuresLeft (refused number place) t = noFigures

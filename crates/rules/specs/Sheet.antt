@@ -1,11 +1,14 @@
--- The sheet, bit by bit, and asking it.
-use mathlib.Core.Bool.{Bool}
-use mathlib.Core.List.{List, [], _∷_}
-use Prim.Native.Nat.{ℕ, zero, suc, _+_, _*_}
+-- The sheet, bit by bit; writing it and asking it.
+use mathlib.Core.Bool.{Bool, cond, _&&_}
+use mathlib.Core.List.{List, [], _∷_, _++_}
+use Prim.Native.Nat.{ℕ, zero, suc, _+_, _-_, _*_, _^_}
 use lib.ListN.{length, replicate}
 use lib.Dec.{leb, ltb, eqb}
 use Rattle.bits.specs.Field.{field, putField}
-use Rattle.rules.specs.Words.{up, between}
+use Rattle.rules.specs.declared.Figures.{Figures}
+use Rattle.rules.specs.declared.Written.{Written}
+use Rattle.rules.specs.declared.Written.the-variants.{Length, Nothing}
+use Rattle.rules.specs.Words.{up, between, entries, every}
 use Rattle.rules.specs.Numbers.{wiresBits, wiresMost, channelsBits, channelsMost, sheetHeadBits, backlogBits, delayBits, figuresBits, endBits}
 use Rattle.rules.specs.Replies.{Reply, granted, test}
 use Rattle.rules.specs.Table.{fillingOf}
@@ -37,6 +40,28 @@ withChannels n end (suc k) b = putField (withChannels n end k b) (endAt n k) end
 unfoldable pub sheetOf : ℕ → ℕ → (ℕ → ℕ) → (ℕ → ℕ) → (ℕ → ℕ) → List ℕ
 sheetOf n m backlog delay end =
     withChannels n end m (withWires backlog delay n (withHead n m (replicate (sheetLength n m) 0)))
+
+-- Writing a sheet into a lent buffer: its counts are in their ranges, each figure fits its field, and the buffer holds it.
+unfoldable pub fits : ℕ → ℕ → Figures → Bool
+fits n m f =
+    between 1 n wiresMost
+    && between 1 m channelsMost
+    && every (λ w. ltb (entries (f .backlog) w) (2 ^ backlogBits)) n
+    && every (λ w. ltb (entries (f .delay) w) (2 ^ delayBits)) n
+    && every (λ k. ltb (entries (f .end) k) (2 ^ endBits)) m
+
+abbrev pub writes : ℕ → ℕ → Figures → ℕ → Bool
+writes n m f lent = fits n m f && leb (sheetLength n m) lent
+
+abbrev pub writtenOf : ℕ → ℕ → Figures → ℕ → Written
+writtenOf n m f lent = cond (writes n m f lent) (Length (sheetLength n m)) Nothing
+
+-- the lent buffer afterwards: the sheet and 255 after it, or 255 alone
+abbrev pub wroteSheet : ℕ → ℕ → Figures → ℕ → List ℕ
+wroteSheet n m f lent =
+    cond (writes n m f lent)
+    (sheetOf n m (entries (f .backlog)) (entries (f .delay)) (entries (f .end)) ++ replicate (lent - sheetLength n m) 255)
+    (replicate lent 255)
 
 -- Asking a sheet for a wire or a channel.
 unfoldable pub sheetWires : List ℕ → ℕ

@@ -2,6 +2,7 @@
 use mathlib.Core.Bool.{Bool, true, false, cond, _&&_, _||_}
 use mathlib.Core.List.{List, [], _∷_, _++_}
 use Prim.Native.Nat.{ℕ, zero, suc, _+_, _-_, _/_}
+use lib.ListN.{getD}
 use lib.Dec.{leb, eqb}
 
 -- f 0 + f 1 + .. + f (n - 1)
@@ -49,6 +50,15 @@ has w (x ∷ xs) = eqb x w || has w xs
 unfoldable pub begins : ℕ → List ℕ → Bool
 begins w [] = false
 begins w (x ∷ xs) = eqb x w
+
+-- what stands in a list at each place, and 0 past its end
+abbrev pub entries : List ℕ → ℕ → ℕ
+entries a i = getD a i 0
+
+-- the test holds of 0, and 1, .. and n - 1
+unfoldable pub every : (ℕ → Bool) → ℕ → Bool
+every f zero = true
+every f (suc n) = every f n && f n
 
 -- the test holds of 0, or 1, .. or n - 1
 unfoldable pub some : (ℕ → Bool) → ℕ → Bool

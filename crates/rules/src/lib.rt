@@ -34,6 +34,12 @@ pub enum Judging {
     Refused(u64, u64),
 }
 
+// Writing a sheet: its length; nothing where a count or a figure does not fit the sheet, or the sheet the lent buffer.
+pub enum Written {
+    Length(u64),
+    Nothing,
+}
+
 // Asking a sheet for a wire: backlog and delay.
 pub enum AskedWire {
     Figures(u64, u64),
@@ -66,6 +72,20 @@ pub struct Table {
 pub struct TableRead {
     pub answer: Reading,
     pub table: Table,
+}
+
+// Of each wire its backlog and delay, of each channel its end-to-end delay, and 0 past them.
+pub struct Figures {
+    pub backlog: [u64; Table::WIRES_MOST],
+    pub delay: [u64; Table::WIRES_MOST],
+    pub end: [u64; Table::CHANNELS_MOST],
+}
+
+// What working out the bounds leaves: the answer to tests 1 to 13, the table and its figures, which are all 0 on a refusal.
+pub struct Bounded {
+    pub answer: Reading,
+    pub table: Table,
+    pub figures: Figures,
 }
 
 impl Table {
