@@ -278,24 +278,31 @@ fn filling_of(s: &[u8], end: usize) -> Reading
     Reading::Read
 }
 
+// What stands for a table that is refused: all 0.
+pub fn none() -> Table
+    ensures { λ r. ⌜ r ≡ noTable ⌝ }
+{
+    Table {
+        hyper: 0,
+        wires: 0,
+        channels: 0,
+        rate: [0; Table::WIRES_MOST],
+        prop: [0; Table::WIRES_MOST],
+        room: [0; Table::WIRES_MOST],
+        price: [0; Table::CHANNELS_MOST],
+        times: [0; Table::CHANNELS_MOST],
+        deadline: [0; Table::CHANNELS_MOST],
+        hops: [0; Table::CHANNELS_MOST],
+        route: [0; Table::ROUTES_MOST],
+    }
+}
+
 fn refused(number: u64, place: u64) -> TableRead
     ensures { λ r. ⌜ (r .answer ≡ Reading.Refused number place) × (r .table ≡ noTable) ⌝ }
 {
     TableRead {
         answer: Reading::Refused(number, place),
-        table: Table {
-            hyper: 0,
-            wires: 0,
-            channels: 0,
-            rate: [0; Table::WIRES_MOST],
-            prop: [0; Table::WIRES_MOST],
-            room: [0; Table::WIRES_MOST],
-            price: [0; Table::CHANNELS_MOST],
-            times: [0; Table::CHANNELS_MOST],
-            deadline: [0; Table::CHANNELS_MOST],
-            hops: [0; Table::CHANNELS_MOST],
-            route: [0; Table::ROUTES_MOST],
-        },
+        table: none(),
     }
 }
 
