@@ -1,3 +1,5 @@
 pub mod Delays
 pub mod Judgement
+pub mod Reach
 pub mod Routes
+pub mod Sizes

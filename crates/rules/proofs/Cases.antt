@@ -12,7 +12,7 @@ use Rattle.rules.specs.Reading.{headTests, wireTests, recordTests, chann
 use Rattle.rules.specs.Office.{K}
 use Rattle.rules.specs.Bounds.{loadOf, load, along, jitter, shareOf, burst, backlogAfter, delayAfter, delaysBelow, backlog, delay, endToEnd}
 use Rattle.rules.specs.Sheet.{figuresAt, endAt, sheetLength, withHead, withWires, withChannels, sheetOf}
-use Rattle.rules.specs.Judgement.{loadTest, roomTest, deadlineTest, boundsTests, deadlineTests, judge, sheet, leaves, buffer}
+use Rattle.rules.specs.Judgement.{loadTest, roomTest, deadlineTest, boundsTests, judge, sheet, leaves, buffer}
 use Rattle.rules.specs.Cases.{Case, caseA, caseASheet, caseALate, cases, Same, Hold, MarkedCases, all, _and_, figuresOf, evaluate}
 
 -- Case by case and figure by figure: where one differs, the refusal names it.
@@ -25,7 +25,7 @@ hold [] e = all
 hold (c ∷ cs) e = e .0 and hold cs (e .1)
 
 each-holds : Each cases
-unfolding bit field putBit putField sum total has begins some test each lastBytes price askPrice hyperOf wiresOf channelsOf wireAt codeOf rateOf propOf roomOf framingAt payloadAt periodAt deadlineAt hopsAt routeAt channelAt endOf fillingOf headTests wireTests valueTests hopTests recordTests channelTests fillingTests readingTests reading loadOf load along jitter shareOf K burst backlogAfter delayAfter delaysBelow backlog delay endToEnd figuresAt endAt sheetLength withHead withWires withChannels sheetOf loadTest roomTest deadlineTest boundsTests deadlineTests judge sheet leaves buffer listed figuresOf evaluate
+unfolding bit field putBit putField sum total has begins some test each lastBytes price askPrice hyperOf wiresOf channelsOf wireAt codeOf rateOf propOf roomOf framingAt payloadAt periodAt deadlineAt hopsAt routeAt channelAt endOf fillingOf headTests wireTests valueTests hopTests recordTests channelTests fillingTests readingTests reading loadOf load along jitter shareOf K burst backlogAfter delayAfter delaysBelow backlog delay endToEnd figuresAt endAt sheetLength withHead withWires withChannels sheetOf loadTest roomTest deadlineTest boundsTests judge sheet leaves buffer listed figuresOf evaluate
 each-holds =
     ((refl, refl, refl, refl, refl, refl), ((refl, refl, refl, refl, refl, refl), ((refl, refl, refl, refl, refl, refl), ((refl, refl, refl, refl, refl, refl), ((refl, refl, refl, refl, refl, refl), ((refl, refl, refl, refl, refl, refl), ((refl, refl, refl, refl, refl, refl), ((refl, refl, refl, refl, refl, refl), ((refl, refl, refl, refl, refl, refl), ((refl, refl, refl, refl, refl, refl), ((refl, refl, refl, refl, refl, refl), ((refl, refl, refl, refl, refl, refl), ((refl, refl, refl, refl, refl, refl), ((refl, refl, refl, refl, refl, refl), ((refl, refl, refl, refl, refl, refl), ((refl, refl, refl, refl, refl, refl), ((refl, refl, refl, refl, refl, refl), ((refl, refl, refl, refl, refl, refl), ((refl, refl, refl, refl, refl, refl), ((refl, refl, refl, refl, refl, refl), ((refl, refl, refl, refl, refl, refl), ((refl, refl, refl, refl, refl, refl), ((refl, refl, refl, refl, refl, refl), ((refl, refl, refl, refl, refl, refl), ((refl, refl, refl, refl, refl, refl), ((refl, refl, refl, refl, refl, refl), ((refl, refl, refl, refl, refl, refl), ((refl, refl, refl, refl, refl, refl), ((refl, refl, refl, refl, refl, refl), ((refl, refl, refl, refl, refl, refl), ((refl, refl, refl, refl, refl, refl), ((refl, refl, refl, refl, refl, refl), ((refl, refl, refl, refl, refl, refl), ((refl, refl, refl, refl, refl, refl), ((refl, refl, refl, refl, refl, refl), ((refl, refl, refl, refl, refl, refl), ((refl, refl, refl, refl, refl, refl), ((refl, refl, refl, refl, refl, refl), ((refl, refl, refl, refl, refl, refl), ((refl, refl, refl, refl, refl, refl), ((refl, refl, refl, refl, refl, refl), ((refl, refl, refl, refl, refl, refl), ((refl, refl, refl, refl, refl, refl), ((refl, refl, refl, refl, refl, refl), ((refl, refl, refl, refl, refl, refl), ((refl, refl, refl, refl, refl, refl), tt))))))))))))))))))))))))))))))))))))))))))))))
 

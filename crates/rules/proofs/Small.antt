@@ -130,7 +130,7 @@ module _ {P : List ℕ → Type 0} (s : List ℕ) where
   fine-filling = fine-test _ 11 0 (omega arith)
 
 fine-bounds : {P : List ℕ → Type 0} (t : View) → t .wires ≤ wiresMost → t .channels ≤ channelsMost → Fine P (λ rest. boundsTests t (deadlineTests t rest))
-unfolding boundsTests deadlineTests loadTest roomTest deadlineTest
+unfolding boundsTests loadTest roomTest deadlineTest
 fine-bounds t a b rest h =
     fine-each (loadTest t) 0 (t .wires) (λ w l. fine-test _ 12 w (omega arith)) _
     (fine-each (roomTest t) 0 (t .wires) (λ w l. fine-test _ 13 w (omega arith)) _

@@ -1,12 +1,20 @@
--- Ascending induction. Laws of sums and tests over numbers below a bound, and of totals over lists.
+-- Either way of a Bool. Ascending induction. Laws of sums and tests over numbers below a bound, and of totals over lists.
 use mathlib.Core.Path.{_≡_, refl, ap, sym}
 use mathlib.Core.Bool.{Bool, true, false, _||_}
+use mathlib.Core.Logic.{_⊎_, inl, inr}
 use mathlib.Core.List.{List, [], _∷_, _++_, map}
 use Prim.Native.Nat.{ℕ, zero, suc, _+_, _*_, _≤_, _<_}
 use native.Mathlib.Nat.{add-zero, add-suc}
 use native.Mathlib.Decide.{decLe, ℕ-discrete}
 use native.Mathlib.Omega.{arith}
 use Rattle.rules.specs.Words.{sum, total, gathered, begins, some}
+
+pub bool-cases : (b : Bool) → (b ≡ true) ⊎ (b ≡ false)
+bool-cases true = inl refl
+bool-cases false = inr refl
+
+pub true-false : true ≡ false → ⊥
+true-false e = let z : _≡_ {A = ℕ} 0 1 = cc in omega arith
 
 -- ascending: what holds of a number where it holds of all below, holds
 pub ascend : (P : ℕ → Type 0) → ((w : ℕ) → ((v : ℕ) → v < w → P v) → P w) → (w : ℕ) → P w
@@ -35,6 +43,11 @@ pub sum-scale : (c : ℕ) (f : ℕ → ℕ) (n : ℕ) → sum (λ i. c * f i) n 
 unfolding sum
 sum-scale c f zero = omega arith
 sum-scale c f (suc n) = omega (arith, sum-scale c f n)
+
+pub sum-const : (a n : ℕ) → sum (λ i. a) n ≡ n * a
+unfolding sum
+sum-const a zero = omega arith
+sum-const a (suc n) = omega (arith, sum-const a n)
 
 pub sum-none : (n : ℕ) → sum (λ i. 0) n ≡ 0
 unfolding sum

@@ -16,13 +16,17 @@ cost t k = price (t .framing k) (t .payload k)
 abbrev pub times : View → ℕ → ℕ
 times t k = t .hyper / t .period k
 
+-- C × (H / P)
+abbrev pub part : View → ℕ → ℕ
+part t k = cost t k * times t k
+
 -- channel k's route has wire w
 abbrev pub on : View → ℕ → ℕ → Bool
 on t w k = has w (t .route k)
 
 -- Load of a wire: the sum of C × (H / P) over its channels.
 unfoldable pub loadOf : View → ℕ → ℕ → ℕ
-loadOf t w k = only (on t w k) (cost t k * times t k)
+loadOf t w k = only (on t w k) (part t k)
 
 unfoldable pub load : View → ℕ → ℕ
 load t w = sum (loadOf t w) (t .channels)
@@ -43,7 +47,7 @@ carries t w = some (on t w) (t .channels)
 -- Backlog: the sum over its channels of C × H + C × (H / P) × J, which is the burst times H; divided by H once, at the end,
 -- rounded down. Request Q-4: a wire that carries channels gets rate × K more.
 unfoldable pub shareOf : View → (ℕ → ℕ) → ℕ → ℕ → ℕ
-shareOf t delays w k = only (on t w k) (cost t k * t .hyper + cost t k * times t k * jitter t delays w k)
+shareOf t delays w k = only (on t w k) (cost t k * t .hyper + part t k * jitter t delays w k)
 
 unfoldable pub burst : View → (ℕ → ℕ) → ℕ → ℕ
 burst t delays w = sum (shareOf t delays w) (t .channels)

@@ -22,11 +22,18 @@ unfoldable pub deadlineTest : View → ℕ → Reply → Reply
 deadlineTest t k rest = test (leb (endToEnd t k) (t .deadline k)) 14 k rest
 
 -- 12 over all wires, 13 over all wires, 14 over all channels, each lowest number first.
-unfoldable pub boundsTests : View → Reply → Reply
-boundsTests t rest = each (loadTest t) 0 (t .wires) (each (roomTest t) 0 (t .wires) rest)
+abbrev pub loadTests : View → Reply → Reply
+loadTests t rest = each (loadTest t) 0 (t .wires) rest
 
-unfoldable pub deadlineTests : View → Reply → Reply
+abbrev pub roomTests : View → Reply → Reply
+roomTests t rest = each (roomTest t) 0 (t .wires) rest
+
+abbrev pub deadlineTests : View → Reply → Reply
 deadlineTests t rest = each (deadlineTest t) 0 (t .channels) rest
+
+-- 12 and 13, which leave every figure.
+unfoldable pub boundsTests : View → Reply → Reply
+boundsTests t rest = loadTests t (roomTests t rest)
 
 -- The reply to working out the bounds alone: 1 to 13.
 unfoldable pub bounding : List ℕ → Reply

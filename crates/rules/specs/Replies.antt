@@ -1,4 +1,5 @@
 -- Replies: what was asked, granted with its values; or a refusal with its number and place.
+use mathlib.Core.Path.{_≡_}
 use mathlib.Core.Bool.{Bool, cond}
 use mathlib.Core.List.{List, [], _∷_}
 use Prim.Native.Nat.{ℕ, zero, suc}
@@ -30,6 +31,10 @@ each tests i (suc left) rest = tests i (each tests (suc i) left rest)
 abbrev pub after : Reading → Reply → Reply
 after reading.Read rest = rest
 after (reading.Refused number place) rest = refused number place
+
+-- these tests have this answer
+abbrev pub Answered : (Reply → Reply) → Reading → Type 0
+Answered tests answer = (rest : Reply) → tests rest ≡ after answer rest
 
 -- a fact of what a stage leaves, where nothing was refused
 abbrev pub IfRead : Reading → Type 0 → Type 0

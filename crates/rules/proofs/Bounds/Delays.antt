@@ -15,8 +15,7 @@ use Rattle.rules.specs.Table.{View}
 use Rattle.rules.specs.Office.{first, K}
 use Rattle.rules.specs.Bounds.{cost, on, carries, along, jitter, shareOf, burst, backlogAfter, delayAfter, delaysBelow, known, backlog, delay}
 use Rattle.rules.specs.Sound.{Sound, Climbs}
-use Rattle.rules.proofs.Sums.{sum-has, sum-none, sum-same, none-some}
-use Rattle.rules.proofs.Machine.Orders.{bool-cases}
+use Rattle.rules.proofs.Sums.{bool-cases, sum-has, sum-none, sum-same, none-some}
 use Rattle.rules.proofs.Price.{price-least}
 use Rattle.rules.proofs.Bounds.Routes.{along-same}
 

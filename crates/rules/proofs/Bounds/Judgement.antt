@@ -1,5 +1,5 @@
 -- What the judgement says, in plain facts.
-use mathlib.Core.Path.{_≡_}
+use mathlib.Core.Path.{_≡_, _∙_}
 use mathlib.Core.Logic.{_⊎_, inl, inr}
 use mathlib.Core.List.{List, [], _∷_}
 use Prim.Native.Nat.{ℕ, _*_, _≤_, _<_}
@@ -8,10 +8,11 @@ use Rattle.rules.specs.Replies.{Reply, granted, refused, test}
 use Rattle.rules.specs.Table.{View, viewOf}
 use Rattle.rules.specs.Reading.{readingTests, reading}
 use Rattle.rules.specs.Bounds.{load, backlog, endToEnd}
-use Rattle.rules.specs.Judgement.{loadTest, roomTest, deadlineTest, boundsTests, deadlineTests, lengthOf, judge}
-use Rattle.rules.proofs.Tests.{Gate, through, stops, gate-granted, gate-through, gate-iff, gate-then, le-gate, all-gate}
+use Rattle.rules.specs.Judgement.{loadTest, roomTest, deadlineTest, loadTests, boundsTests, deadlineTests, bounding, lengthOf, judge}
+use Rattle.rules.proofs.Tests.{Through, Stops, Gate, through, stops, gate-granted, gate-through, gate-iff, gate-then, le-gate, all-gate}
 use Rattle.rules.specs.Sound.{Sound}
-use Rattle.rules.proofs.Tables.Laws.{Passes, passes-sound, reading-gate, reading-refused}
+use Rattle.rules.proofs.Tables.Search.{le-stops}
+use Rattle.rules.proofs.Tables.Laws.{Passes, passes-sound, reading-gate, reading-refused, reading-passes, passes-reading}
 
 -- 12 and 13
 pub record Carried (t : View) : Type 0 where
@@ -31,17 +32,33 @@ pub record Accepted (s : List ℕ) (lent : ℕ) : Type 0 where
   pub fits : lengthOf (viewOf s) ≤ lent
 
 module _ (t : View) where
-  load-gate : (w : ℕ) → Gate (load t w ≤ t .rate w * t .hyper) (loadTest t w)
+  pub load-gate : (w : ℕ) → Gate (load t w ≤ t .rate w * t .hyper) (loadTest t w)
   unfolding loadTest
   load-gate w = le-gate 12 w (load t w) (t .rate w * t .hyper)
 
-  room-gate : (w : ℕ) → Gate (backlog t w ≤ t .room w) (roomTest t w)
+  pub room-gate : (w : ℕ) → Gate (backlog t w ≤ t .room w) (roomTest t w)
   unfolding roomTest
   room-gate w = le-gate 13 w (backlog t w) (t .room w)
 
-  deadline-gate : (k : ℕ) → Gate (endToEnd t k ≤ t .deadline k) (deadlineTest t k)
+  pub deadline-gate : (k : ℕ) → Gate (endToEnd t k ≤ t .deadline k) (deadlineTest t k)
   unfolding deadlineTest
   deadline-gate k = le-gate 14 k (endToEnd t k) (t .deadline k)
+
+  pub load-stops : (w : ℕ) → t .rate w * t .hyper < load t w → Stops (loadTest t w) 12 w
+  unfolding loadTest
+  load-stops w l = le-stops 12 w (load t w) (t .rate w * t .hyper) l
+
+  pub room-stops : (w : ℕ) → t .room w < backlog t w → Stops (roomTest t w) 13 w
+  unfolding roomTest
+  room-stops w l = le-stops 13 w (backlog t w) (t .room w) l
+
+  pub deadline-stops : (k : ℕ) → t .deadline k < endToEnd t k → Stops (deadlineTest t k) 14 k
+  unfolding deadlineTest
+  deadline-stops k l = le-stops 14 k (endToEnd t k) (t .deadline k) l
+
+  -- where 12 passes, no wire is over its load
+  pub loads-pass : Through (loadTests t) → (w : ℕ) → w < t .wires → load t w ≤ t .rate w * t .hyper
+  loads-pass h = gate-granted (all-gate (λ w. load t w ≤ t .rate w * t .hyper) (loadTest t) load-gate (t .wires)) (granted []) [] (h (granted [])) .0
 
   pub carried-gate : Gate (Carried t) (boundsTests t)
   unfolding boundsTests
@@ -51,7 +68,6 @@ module _ (t : View) where
       (all-gate (λ w. backlog t w ≤ t .room w) (roomTest t) room-gate (t .wires)))
 
   pub deadlines-gate : Gate ((k : ℕ) → k < t .channels → endToEnd t k ≤ t .deadline k) (deadlineTests t)
-  unfolding deadlineTests
   deadlines-gate = all-gate (λ k. endToEnd t k ≤ t .deadline k) (deadlineTest t) deadline-gate (t .channels)
 
   pub bounds-gate : Gate (Bounded t) (λ rest. boundsTests t (deadlineTests t rest))
@@ -59,6 +75,21 @@ module _ (t : View) where
       gate-iff (λ h. record { loads = h .0 .loads; backlogs = h .0 .backlogs; ends = h .1 })
       (λ r. (record { loads = r .loads; backlogs = r .backlogs }, r .ends))
       (gate-then carried-gate deadlines-gate)
+
+-- ---- the reply to the bounds alone
+
+module _ (s : List ℕ) where
+  pub bounding-unread : (n p : ℕ) → reading s ≡ refused n p → bounding s ≡ refused n p
+  unfolding bounding
+  bounding-unread n p e = reading-refused s n p e _
+
+  pub bounding-stops : (n p : ℕ) → reading s ≡ granted [] → Stops (boundsTests (viewOf s)) n p → bounding s ≡ refused n p
+  unfolding bounding
+  bounding-stops n p r h = passes-reading s (reading-passes s r) _ ∙ h _
+
+  pub bounding-through : reading s ≡ granted [] → Through (boundsTests (viewOf s)) → bounding s ≡ granted []
+  unfolding bounding
+  bounding-through r h = passes-reading s (reading-passes s r) _ ∙ h _
 
 -- all tests of the judgement
 abbrev pub judgeTests : List ℕ → ℕ → Reply → Reply

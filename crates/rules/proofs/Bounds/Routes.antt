@@ -13,9 +13,7 @@ use Rattle.rules.specs.Words.{total, has}
 use Rattle.rules.specs.Table.{Source, nowhere, release, wire, sourceAfter, source, lastWire}
 use Rattle.rules.specs.Bounds.{along}
 use Rattle.rules.specs.Sound.{Climbs}
-
-true-false : true ≡ false → ⊥
-true-false e = let z : _≡_ {A = ℕ} 0 1 = cc in omega arith
+use Rattle.rules.proofs.Sums.{true-false}
 
 or-right : (a : Bool) {b : Bool} → b ≡ true → a || b ≡ true
 or-right true e = refl

@@ -12,9 +12,9 @@ use Rattle.rules.specs.Table.{View, source}
 use Rattle.rules.specs.Office.{K}
 use Rattle.rules.specs.Machine.{Frame, Waiting, Releases, Gone, ofChannel, dueFrom, due, AnyOrder, joined, Holding, Run, Allowed, Order, Choice, queueIn, heldIn, arrivals, holding, played}
 use Rattle.rules.specs.Sound.{Sound}
-use Rattle.rules.proofs.Machine.Orders.{bool-cases}
 use Rattle.rules.proofs.Bounds.Routes.{nowhere-off, climbs-below, follows}
 use Rattle.rules.proofs.Machine.Played.{gathered-same, reaching-same, goneAt, arrivedAt, heldAt, queue-next, gone-now, held-now, empty-first}
+use Rattle.rules.proofs.Sums.{bool-cases}
 
 -- what is held follows from the three conditions
 holding-is :

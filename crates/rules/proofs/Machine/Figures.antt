@@ -17,8 +17,8 @@ use Rattle.rules.specs.Bounds.{cost, times, on, carries, loadOf, load, s
 use Rattle.rules.specs.Machine.{Frame, Releases, Keeps, Holding, Run, Allowed, AnyOrder, message, sending, bytes, unsent, Gone, reaching, delivered, ofChannel}
 use Rattle.rules.specs.Promise.{Among}
 use Rattle.rules.specs.Sound.{Sound}
-use Rattle.rules.proofs.Sums.{sum-le, sum-same, sum-add, sum-scale, sum-none, sum-alone, sum-grows, sum-cut, total-gathered, total-empty, some-none}
-use Rattle.rules.proofs.Machine.Orders.{bool-cases, same, any-order-complete, among-complete}
+use Rattle.rules.proofs.Sums.{bool-cases, sum-le, sum-same, sum-add, sum-scale, sum-none, sum-alone, sum-grows, sum-cut, total-gathered, total-empty, some-none}
+use Rattle.rules.proofs.Machine.Orders.{same, any-order-complete, among-complete}
 use Rattle.rules.proofs.Price.{frames-price, price-grows}
 use Rattle.rules.proofs.Bounds.Routes.{nowhere-off, last-there, last-total, route-same, along-add, climbs-below}
 use Rattle.rules.proofs.Machine.Gaps.{window-most}

@@ -1,7 +1,7 @@
 -- "In any order" is exactly equality of counts; "among" is exactly counts that are no larger.
 use mathlib.Core.Path.{_≡_, refl}
 use mathlib.Core.Bool.{Bool, true, false, _&&_}
-use mathlib.Core.Logic.{_⊎_, inl, inr}
+use mathlib.Core.Logic.{inl, inr}
 use mathlib.Core.List.{List, [], _∷_, _++_}
 use Prim.Native.Nat.{ℕ, _+_, _≤_, _<_}
 use native.Mathlib.Omega.{arith}
@@ -10,7 +10,7 @@ use borrow.Author.Tests.{eqb-true, eq-eqb}
 use Rattle.rules.specs.Words.{total, gathered, only}
 use Rattle.rules.specs.Machine.{Frame, Put, here, later, AnyOrder, none, more}
 use Rattle.rules.specs.Promise.{Among}
-use Rattle.rules.proofs.Sums.{sum-grows, total-append, total-gathered}
+use Rattle.rules.proofs.Sums.{bool-cases, sum-grows, total-append, total-gathered}
 
 -- the two frames are the same
 abbrev pub same : Frame → Frame → Bool
@@ -19,10 +19,6 @@ same f x = eqb (f .channel) (x .channel) && (eqb (f .born) (x .born) && eqb (f .
 -- how often a list holds a frame
 abbrev pub count : Frame → List Frame → ℕ
 count f xs = total (λ (x : Frame). only (same f x) 1) xs
-
-pub bool-cases : (b : Bool) → (b ≡ true) ⊎ (b ≡ false)
-bool-cases true = inl refl
-bool-cases false = inr refl
 
 and-true : (a b : Bool) → a && b ≡ true → (a ≡ true) × (b ≡ true)
 and-true true b e = (refl, e)

@@ -22,7 +22,7 @@ use Rattle.rules.specs.Reading.{headTests, wireTests, recordTests, chann
 use Rattle.rules.specs.Office.{K}
 use Rattle.rules.specs.Bounds.{loadOf, load, along, jitter, shareOf, burst, backlogAfter, delayAfter, delaysBelow, backlog, delay, endToEnd}
 use Rattle.rules.specs.Sheet.{figuresAt, endAt, sheetLength}
-use Rattle.rules.specs.Judgement.{loadTest, roomTest, deadlineTest, boundsTests, deadlineTests, judge}
+use Rattle.rules.specs.Judgement.{loadTest, roomTest, deadlineTest, boundsTests, judge}
 use Rattle.rules.specs.Machine.{Frame, Releases, Keeps, message, ofChannel, bornIn, Gone, reaching, dueFrom, due, AnyOrder, sent, kept, bytes, Run, nobody, unsent, delivered, Order, Choice, arrivals, holding, step, played}
 use Rattle.rules.specs.Cases.{caseA, caseB}
 use Rattle.rules.proofs.Sums.{total-append}
@@ -101,7 +101,7 @@ Takes t gone slots =
 
 -- what the computations below see through
 unfoldable pub definitions : Unit {0}
-unfolding bit field sum total has begins some test each lastBytes price hyperOf wiresOf channelsOf wireAt codeOf rateOf propOf roomOf framingAt payloadAt periodAt deadlineAt hopsAt routeAt channelAt endOf fillingOf headTests wireTests valueTests hopTests recordTests channelTests fillingTests readingTests loadOf load along jitter K shareOf burst backlogAfter delayAfter delaysBelow backlog delay endToEnd figuresAt endAt sheetLength loadTest roomTest deadlineTest boundsTests deadlineTests judge listed gathered lastFrame frames message ofChannel bornIn sourceAfter source reaching dueFrom due sent kept bytes lastWire delivered arrivals holding step played periodic backwards
+unfolding bit field sum total has begins some test each lastBytes price hyperOf wiresOf channelsOf wireAt codeOf rateOf propOf roomOf framingAt payloadAt periodAt deadlineAt hopsAt routeAt channelAt endOf fillingOf headTests wireTests valueTests hopTests recordTests channelTests fillingTests readingTests loadOf load along jitter K shareOf burst backlogAfter delayAfter delaysBelow backlog delay endToEnd figuresAt endAt sheetLength loadTest roomTest deadlineTest boundsTests judge listed gathered lastFrame frames message ofChannel bornIn sourceAfter source reaching dueFrom due sent kept bytes lastWire delivered arrivals holding step played periodic backwards
 definitions = tt
 
 -- K by rate: of a wire that is first on some route, and of another.

@@ -1,0 +1,5 @@
+pub mod Stretches
+pub mod Hops
+pub mod Holding
+pub mod Wires
+pub mod Left
