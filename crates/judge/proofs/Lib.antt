@@ -4,7 +4,6 @@ pub mod Walk
 pub mod Told
 pub mod Walking
 pub mod Limits
-pub mod Putting
 pub mod Judged
 pub mod OneReply
 pub mod Settled

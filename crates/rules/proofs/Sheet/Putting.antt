@@ -1,5 +1,4 @@
--- What the fields that are put leave: the head, and a turn of each loop.
--- Assumes nothing.
+-- What the fields that are put leave: the head, a turn of each loop, and the whole sheet in a filled buffer.
 use mathlib.Core.Path.{_≡_, refl, ap, _∙_}
 use mathlib.Core.List.{List, _++_}
 use Prim.Native.Nat.{ℕ, zero, suc, _+_, _-_, _*_, _^_, _≤_, _<_}
@@ -10,11 +9,12 @@ use lib.ListN.{length, take, drop, replicate, length-replicate}
 use lib.Seq.{length-take-le}
 use Rattle.bits.specs.Field.{putField, widest, wroteField}
 use Rattle.bits.proofs.Laws.{length-putField, wroteField-put}
 use Rattle.rules.specs.Numbers.{wiresBits, channelsBits, backlogBits, delayBits, endBits}
 use Rattle.rules.specs.Sheet.{figuresAt, endAt, sheetLength, withHead, withWires, withChannels, sheetOf}
 
 -- two fields, the second where the first ends
-two-put : (s : List ℕ) (at v w u v' w' : ℕ) → u ≡ at + w → w ≤ widest → w' ≤ widest → u + w' ≤ 8 * length s → v < 2 ^ w → v' < 2 ^ w'
+two-put : (s : List ℕ) (at v w u v' w' : ℕ) → u ≡ at + w → w ≤ widest → w' ≤ widest → u + w' ≤ 8 * length s
+    → v < 2 ^ w → v' < 2 ^ w'
     → wroteField (wroteField s at w v) u w' v' ≡ putField (putField s at w v) u w' v'
 two-put s at v w u v' w' e a b h l l' =
     ap (λ (t : List ℕ). wroteField t u w' v') (wroteField-put s at w a (omega arith) v l)
@@ -48,7 +48,8 @@ drop-replicate (suc k) (suc n) v = rw suc-sub-suc (drop-replicate k n v)
 
 -- a buffer s of 255 whose first bytes are made 0 and then the sheet
 pub sheet-put : (n m : ℕ) (b d e : ℕ → ℕ) (r : ℕ) (s f z h w c : List ℕ) → r ≡ sheetLength n m → r ≤ length s
-    → f ≡ replicate (length s) 255 → z ≡ replicate (length (take r f)) 0 → h ≡ withHead n m z → w ≡ withWires b d n h → c ≡ withChannels n e m w
+    → f ≡ replicate (length s) 255 → z ≡ replicate (length (take r f)) 0
+    → h ≡ withHead n m z → w ≡ withWires b d n h → c ≡ withChannels n e m w
     → c ++ drop r f ≡ sheetOf n m b d e ++ replicate (length s - sheetLength n m) 255
 unfolding sheetOf
 sheet-put n m b d e r s f z h w c er lr ef ez eh ew ec =
