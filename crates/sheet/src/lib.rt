@@ -1,18 +1,25 @@
-// Asking any byte string for a wire or a channel of the sheet that it may be.
+// The sheet: writing it into a lent buffer, and asking any byte string for a wire or a channel of the sheet that it may be.
 ghost use mathlib.Core.Path.{_≡_};
-ghost use Prim.Native.Nat.{_+_, _*_, _≤_};
+ghost use Prim.Native.Nat.{ℕ, _*_, _^_, _≤_, _<_};
 ghost use lib.ListN.{length};
 ghost use lib.Dec.{eqb};
-ghost use Rattle.bits.specs.Field.{field, widest};
-ghost use Rattle.rules.specs.Numbers.{wiresMost, channelsMost};
+ghost use Rattle.rules.specs.Numbers.{wiresMost, channelsMost, wiresBits, channelsBits, backlogBits, delayBits, endBits};
+ghost use Rattle.rules.specs.Words.{entries};
 ghost use Rattle.rules.specs.Replies.{Reply, test, wireReply, channelReply};
-ghost use Rattle.rules.specs.Sheet.{figuresAt, endAt, sheetWires, sheetChannels, sheetTests, askWire, askChannel};
-use bits::Taken;
+ghost use Rattle.rules.specs.Sheet.{figuresAt, endAt, sheetLength};
+ghost use Rattle.rules.specs.Sheet.{fits, withHead, withChannels, writtenOf, wroteSheet};
+ghost use Rattle.rules.specs.Sheet.{sheetWires, sheetChannels, sheetTests, askWire, askChannel};
+ghost use Rattle.sheet.specs.Writing.{allBelow, wiresPut};
 use rules::AskedChannel;
 use rules::AskedWire;
+use rules::Figures;
 use rules::Table;
+use rules::Written;
 
 const BYTE_BITS: usize = 8;
+
+// What stands in every byte that is not the sheet's.
+const NO_SHEET: u8 = 255;
 
 // The bytes that hold the counts.
 const HEAD_BYTES: usize = 2;
@@ -25,34 +32,6 @@ const WRONG_COUNT: u64 = 17;
 const FILLED: u64 = 18;
 
 const NONE_SUCH: u64 = 19;
-
-// What a sheet's head says.
-struct Counts {
-    wires: usize,
-    channels: usize,
-}
-
-// A field of bits that are all there.
-fn field_at(s: &[u8], at: usize, width: usize) -> u64
-    requires { ⌜ width ≤ widest ⌝ }
-    requires { ⌜ at + width ≤ 8 * length (now s) ⌝ }
-    ensures { λ r. ⌜ r ≡ field (now (s .entry)) at width ⌝ }
-{
-    let taken = bits::read(s, at, width);
-    match taken {
-        Taken::Number(number) => number,
-        Taken::Nothing => 0,
-    }
-}
-
-fn counts_of(sheet: &[u8]) -> Counts
-    requires { ⌜ 2 ≤ length (now sheet) ⌝ }
-    ensures { λ r. ⌜ (r .wires ≡ sheetWires (now (sheet .entry))) × (r .channels ≡ sheetChannels (now (sheet .entry))) ⌝ }
-{
-    let wires = field_at(sheet, 0, Table::WIRES_BITS) as usize;
-    let channels = field_at(sheet, Table::WIRES_BITS, Table::CHANNELS_BITS) as usize;
-    Counts { wires, channels }
-}
 
 // Where a wire's figures start.
 fn figures_at(wire: usize) -> usize
@@ -68,6 +47,130 @@ fn end_at(wires: usize, channel: usize) -> usize
     ensures { λ r. ⌜ r ≡ endAt wires channel ⌝ }
 {
     figures_at(wires) + Table::END_BITS * channel
+}
+
+fn sheet_length(wires: usize, channels: usize) -> usize
+    requires { ⌜ (wires ≤ wiresMost) × (channels ≤ channelsMost) ⌝ }
+    ensures { λ r. ⌜ r ≡ sheetLength wires channels ⌝ }
+{
+    (end_at(wires, channels) + (BYTE_BITS - 1)) / BYTE_BITS
+}
+
+// Whether each of the first n numbers is below the limit.
+fn all_below(numbers: &[u64], n: usize, limit: u64) -> bool
+    requires { ⌜ n ≤ length (now numbers) ⌝ }
+    ensures { λ r. ⌜ r ≡ allBelow (now (numbers .entry)) n limit ⌝ }
+{
+    for i in 0..n {
+        if limit <= numbers[i] {
+            return false;
+        }
+    }
+    true
+}
+
+// Whether the counts are in their ranges, and each figure fits its field.
+fn fit(wires: usize, channels: usize, figures: Figures) -> bool
+    ensures { λ r. ⌜ r ≡ fits wires channels figures ⌝ }
+{
+    if wires < 1 {
+        return false;
+    }
+    if Table::WIRES_MOST < wires {
+        return false;
+    }
+    if channels < 1 {
+        return false;
+    }
+    if Table::CHANNELS_MOST < channels {
+        return false;
+    }
+    let backlog = figures.backlog;
+    if !all_below(&backlog, wires, 1 << Table::BACKLOG_BITS) {
+        return false;
+    }
+    let delay = figures.delay;
+    if !all_below(&delay, wires, 1 << Table::DELAY_BITS) {
+        return false;
+    }
+    let end = figures.end;
+    all_below(&end, channels, 1 << Table::END_BITS)
+}
+
+fn put_head(sheet: &mut [u8], wires: usize, channels: usize)
+    requires { ⌜ (wires < 2 ^ wiresBits) × (channels < 2 ^ channelsBits) × (figuresAt 0 ≤ 8 * length (now sheet)) ⌝ }
+    ensures { λ _. ⌜ now (sheet .exit) ≡ withHead wires channels (now (sheet .entry)) ⌝ }
+{
+    bits::write(sheet, 0, Table::WIRES_BITS, wires as u64);
+    bits::write(
+        sheet,
+        Table::WIRES_BITS,
+        Table::CHANNELS_BITS,
+        channels as u64,
+    );
+}
+
+fn put_wires(sheet: &mut [u8], n: usize, figures: Figures)
+    requires { ⌜ (n ≤ wiresMost) × (figuresAt n ≤ 8 * length (now sheet)) ⌝ }
+    requires { ⌜ ((w : ℕ) → w < n → entries (figures .backlog) w < 2 ^ backlogBits) ⌝ }
+    requires { ⌜ ((w : ℕ) → w < n → entries (figures .delay) w < 2 ^ delayBits) ⌝ }
+    ensures { λ _. ⌜ now (sheet .exit) ≡ wiresPut figures n (now (sheet .entry)) ⌝ }
+{
+    let backlog = figures.backlog;
+    let delay = figures.delay;
+    for w in 0..n {
+        let at = figures_at(w);
+        bits::write(sheet, at, Table::BACKLOG_BITS, backlog[w]);
+        bits::write(sheet, at + Table::BACKLOG_BITS, Table::DELAY_BITS, delay[w]);
+    }
+}
+
+fn put_channels(sheet: &mut [u8], n: usize, m: usize, figures: Figures)
+    requires { ⌜ (n ≤ wiresMost) × (m ≤ channelsMost) × (endAt n m ≤ 8 * length (now sheet)) ⌝ }
+    requires { ⌜ ((k : ℕ) → k < m → entries (figures .end) k < 2 ^ endBits) ⌝ }
+    ensures { λ _. ⌜ now (sheet .exit) ≡ withChannels n (entries (figures .end)) m (now (sheet .entry)) ⌝ }
+{
+    let end = figures.end;
+    for k in 0..m {
+        bits::write(sheet, end_at(n, k), Table::END_BITS, end[k]);
+    }
+}
+
+// The sheet of these figures, and 255 in every byte after it; 255 alone where something does not fit.
+pub fn write(sheet: &mut [u8], wires: usize, channels: usize, figures: Figures) -> Written
+    ensures { λ r. ⌜ r ≡ writtenOf wires channels figures (length (now (sheet .entry))) ⌝ }
+    ensures { λ _. ⌜ now (sheet .exit) ≡ wroteSheet wires channels figures (length (now (sheet .entry))) ⌝ }
+{
+    bits::fill(sheet, NO_SHEET);
+    if !fit(wires, channels, figures) {
+        return Written::Nothing;
+    }
+    let length = sheet_length(wires, channels);
+    if sheet.len() < length {
+        return Written::Nothing;
+    }
+    let part = &mut sheet[..length];
+    bits::fill(part, 0);
+    put_head(part, wires, channels);
+    put_wires(part, wires, figures);
+    put_channels(part, wires, channels, figures);
+    Written::Length(length as u64)
+}
+
+// What a sheet's head says.
+struct Counts {
+    wires: usize,
+    channels: usize,
+}
+
+fn counts_of(sheet: &[u8]) -> Counts
+    requires { ⌜ 2 ≤ length (now sheet) ⌝ }
+    ensures { λ r. ⌜ r .wires ≡ sheetWires (now (sheet .entry)) ⌝ }
+    ensures { λ r. ⌜ r .channels ≡ sheetChannels (now (sheet .entry)) ⌝ }
+{
+    let wires = bits::number(sheet, 0, Table::WIRES_BITS) as usize;
+    let channels = bits::number(sheet, Table::WIRES_BITS, Table::CHANNELS_BITS) as usize;
+    Counts { wires, channels }
 }
 
 // The number of the first test before 19 that fails, 0 where none does.
@@ -96,7 +199,7 @@ fn fault(sheet: &[u8]) -> u64
     if sheet.len() != (end + (BYTE_BITS - 1)) / BYTE_BITS {
         return WRONG_LENGTH;
     }
-    if field_at(sheet, end, BYTE_BITS * sheet.len() - end) != 0 {
+    if bits::number(sheet, end, BYTE_BITS * sheet.len() - end) != 0 {
         return FILLED;
     }
     0
@@ -116,8 +219,8 @@ pub fn ask_wire(sheet: &[u8], wire: u64) -> AskedWire
     }
     let at = figures_at(wire as usize);
     let next = at + Table::BACKLOG_BITS;
-    let backlog = field_at(sheet, at, Table::BACKLOG_BITS);
-    let delay = field_at(sheet, next, Table::DELAY_BITS);
+    let backlog = bits::number(sheet, at, Table::BACKLOG_BITS);
+    let delay = bits::number(sheet, next, Table::DELAY_BITS);
     AskedWire::Figures(backlog, delay)
 }
 
@@ -134,5 +237,5 @@ pub fn ask_channel(sheet: &[u8], channel: u64) -> AskedChannel
         return AskedChannel::Refused(NONE_SUCH, 0);
     }
     let at = end_at(n.wires, channel as usize);
-    AskedChannel::Delay(field_at(sheet, at, Table::END_BITS))
+    AskedChannel::Delay(bits::number(sheet, at, Table::END_BITS))
 }

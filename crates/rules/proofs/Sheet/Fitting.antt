@@ -39,9 +39,9 @@ module _ (f : ℕ → Bool) where
     | no o ↦ rw (every-false n i (omega arith) e)
   ]
     where
-    last : (a b : Bool) → b ≡ false → a && b ≡ false
-    last true b q = q
-    last false b q = refl
+      last : (a b : Bool) → b ≡ false → a && b ≡ false
+      last true b q = q
+      last false b q = refl
 
 -- ---- the figures
 

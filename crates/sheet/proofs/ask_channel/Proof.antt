@@ -1,8 +1,10 @@
 -- `sheet::ask_channel` meets its contract.
 -- Assumes nothing.
-use mathlib.Core.Path.{sym}
+use mathlib.Core.Path.{sym, _∙_}
 use native.Mathlib.Omega.{arith}
 use borrow.Author.Needs.{needs}
+use Rattle.bits.proofs.Laws.{number-is}
+use Rattle.rules.specs.Numbers.{endBits}
 use Rattle.rules.specs.Sheet.{figuresAt, endAt}
 use Rattle.rules.proofs.Sheet.Replies.{Passed, fault-none, ask-channel-fault, ask-channel-none, ask-channel-some}
 use Rattle.sheet.proofs.ask_channel.Statement.{statement}
@@ -34,15 +36,16 @@ returns-2 c =
 end-at-requires : tie.Need-end-at-requires
 end-at-requires c κs = omega (arith, pass (c .before .before))
 
-field-at-requires : tie.Need-field-at-requires
-unfolding figuresAt endAt
-field-at-requires c κs = omega (arith, pass (c .before .before .before))
+number-requires : tie.Need-number-requires
+number-requires c κs = search needs
 
 returns-3 : tie.Need-returns-3
 unfolding figuresAt endAt
 returns-3 c =
     let e = c .before .before .before .before in
-    sym (ask-channel-some (st e .args .sheet .now) (pass e) (st e .args .channel) _ _ (omega arith) (omega arith) (c .field-at .ensures))
+    let s = st e .args .sheet .now in
+    let end = c .number .ensures ∙ number-is s (c .before .end-at .result) endBits (omega arith) (omega (arith, pass e)) in
+    sym (ask-channel-some s (pass e) (st e .args .channel) _ _ (omega arith) (omega arith) end)
 
 pub ask-channel-spec : {M : Type 1} → statement M
 ask-channel-spec =
@@ -53,5 +56,5 @@ ask-channel-spec =
     counts-of-requires
     returns-2
     end-at-requires
-    field-at-requires
+    number-requires
     returns-3)

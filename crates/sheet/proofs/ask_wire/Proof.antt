@@ -1,8 +1,11 @@
 -- `sheet::ask_wire` meets its contract.
 -- Assumes nothing.
-use mathlib.Core.Path.{sym}
+use mathlib.Core.Path.{sym, _∙_}
+use Prim.Native.Nat.{_+_}
 use native.Mathlib.Omega.{arith}
 use borrow.Author.Needs.{needs}
+use Rattle.bits.proofs.Laws.{number-is}
+use Rattle.rules.specs.Numbers.{backlogBits, delayBits}
 use Rattle.rules.specs.Sheet.{figuresAt, endAt}
 use Rattle.rules.proofs.Sheet.Replies.{Passed, fault-none, ask-wire-fault, ask-wire-none, ask-wire-some}
 use Rattle.sheet.proofs.ask_wire.Statement.{statement}
@@ -38,19 +41,21 @@ add-next : tie.Need-add-next
 unfolding figuresAt
 add-next c = omega (arith, pass (c .before .before .before))
 
-field-at-requires : tie.Need-field-at-requires
-unfolding figuresAt endAt
-field-at-requires c κs = omega (arith, pass (c .before .before .before))
+number-requires : tie.Need-number-requires
+number-requires c κs = search needs
 
-field-at-requires-2 : tie.Need-field-at-requires-2
-unfolding figuresAt endAt
-field-at-requires-2 c κs = omega (arith, pass (c .before .before .before .before))
+number-requires-2 : tie.Need-number-requires-2
+number-requires-2 c κs = search needs
 
 returns-3 : tie.Need-returns-3
+unfolding figuresAt endAt
 returns-3 c =
     let e = c .before .before .before .before .before in
-    sym (ask-wire-some (st e .args .sheet .now) (pass e) (st e .args .wire) _ _ _ _ (omega arith) (omega arith) (omega arith)
-    (c .before .field-at .ensures) (c .field-at2 .ensures))
+    let s = st e .args .sheet .now in
+    let at = c .before .before .figures-at .result in
+    let backlog = c .before .number .ensures ∙ number-is s at backlogBits (omega arith) (omega (arith, pass e)) in
+    let delay = c .number2 .ensures ∙ number-is s (at + backlogBits) delayBits (omega arith) (omega (arith, pass e)) in
+    sym (ask-wire-some s (pass e) (st e .args .wire) _ _ _ _ (omega arith) (omega arith) (omega arith) backlog delay)
 
 pub ask-wire-spec : {M : Type 1} → statement M
 ask-wire-spec =
@@ -62,6 +67,6 @@ ask-wire-spec =
     returns-2
     figures-at-requires
     add-next
-    field-at-requires
-    field-at-requires-2
+    number-requires
+    number-requires-2
     returns-3)

@@ -1,19 +1,27 @@
--- `sheet::counts_of` meets its contract.
+-- `sheet::counts_of` meets its contract: both counts are in the first 2 bytes.
 -- Assumes nothing.
+use mathlib.Core.Path.{_∙_}
+use native.Mathlib.Omega.{arith}
 use borrow.Author.Needs.{needs}
+use Rattle.bits.proofs.Laws.{number-is}
+use Rattle.rules.specs.Numbers.{wiresBits, channelsBits}
 use Rattle.rules.specs.Sheet.{sheetWires, sheetChannels}
 use Rattle.sheet.proofs.counts_of.Statement.{statement}
 use Rattle.sheet.proofs.counts_of.Tie as tie
 
-field-at-requires : tie.Need-field-at-requires
-field-at-requires c κs = search needs
+number-requires : tie.Need-number-requires
+number-requires c κs = search needs
 
-field-at-requires-2 : tie.Need-field-at-requires-2
-field-at-requires-2 c κs = search needs
+number-requires-2 : tie.Need-number-requires-2
+number-requires-2 c κs = search needs
 
 returns : tie.Need-returns
 unfolding sheetWires sheetChannels
-returns c = (c .before .field-at .ensures, c .field-at2 .ensures)
+returns c =
+    let s = c .before .before .before .args .sheet .now in (
+      c .before .number .ensures ∙ number-is s 0 wiresBits (omega arith) (omega arith),
+      c .number2 .ensures ∙ number-is s wiresBits channelsBits (omega arith) (omega arith),
+    )
 
 pub counts-of-spec : {M : Type 1} → statement M
-counts-of-spec = tie.close (tie.spec field-at-requires field-at-requires-2 returns)
+counts-of-spec = tie.close (tie.spec number-requires number-requires-2 returns)

@@ -1,11 +1,14 @@
 -- `sheet::fault` meets its contract: each return by the law of the test that failed.
 -- Assumes nothing.
-use mathlib.Core.Path.{_≡_}
+use mathlib.Core.Path.{_≡_, _∙_}
 use mathlib.Core.Logic.{inl, inr}
 use mathlib.Core.List.{List}
-use Prim.Native.Nat.{ℕ}
+use Prim.Native.Nat.{ℕ, _-_, _*_}
 use native.Mathlib.Omega.{arith}
+use lib.ListN.{length}
 use borrow.Author.Needs.{needs}
+use Rattle.bits.specs.Field.{field}
+use Rattle.bits.proofs.Laws.{number-is}
 use Rattle.rules.specs.Replies.{test}
 use Rattle.rules.specs.Sheet.{figuresAt, endAt, sheetWires, sheetChannels}
 use Rattle.rules.proofs.Sheet.Replies.{Counted, tests-short, tests-wires, tests-channels, tests-length, tests-filling, tests-pass}
@@ -79,27 +82,35 @@ returns-6 c rest =
     let e = c .before in
     tests-length (s e) rest (counted e) (end e) (ends e) (λ q. omega arith)
 
-mul-field-at : tie.Need-mul-field-at
+mul-number : tie.Need-mul-number
 unfolding figuresAt endAt
-mul-field-at c = omega arith
+mul-number c = omega arith
 
-sub-field-at : tie.Need-sub-field-at
-sub-field-at c = omega arith
+sub-number : tie.Need-sub-number
+sub-number c = omega arith
 
-field-at-requires : tie.Need-field-at-requires
-field-at-requires c κs = omega arith
+number-requires : tie.Need-number-requires
+number-requires c κs = search needs
+
+-- the bits after the last field are fewer than 8
+module _ (c : tie.After-number) where
+  abbrev ended : tie.After-end-at
+  ended = c .before .before
+
+  filling : c .number .result ≡ field (s ended) (end ended) (8 * length (s ended) - end ended)
+  filling = c .number .ensures ∙ number-is (s ended) (end ended) _ (omega arith) (omega arith)
 
 returns-7 : tie.Need-returns-7
 unfolding test
 returns-7 c rest =
     let e = c .before .before .before in
-    tests-filling (s e) rest (counted e) (end e) (ends e) (omega arith) (omega arith)
+    tests-filling (s e) rest (counted e) (end e) (ends e) (omega arith) (omega (arith, filling (c .before)))
 
 returns-8 : tie.Need-returns-8
 unfolding test
 returns-8 c rest =
     let e = c .before .before .before in
-    tests-pass (s e) rest (counted e) (end e) (ends e) (omega arith) (omega arith)
+    tests-pass (s e) rest (counted e) (end e) (ends e) (omega arith) (omega (arith, filling (c .before)))
 
 pub fault-spec : {M : Type 1} → statement M
 fault-spec =
@@ -115,8 +126,8 @@ fault-spec =
     sub-if6
     add-if6
     returns-6
-    mul-field-at
-    sub-field-at
-    field-at-requires
+    mul-number
+    sub-number
+    number-requires
     returns-7
     returns-8)

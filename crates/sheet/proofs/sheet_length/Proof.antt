@@ -1,10 +1,10 @@
--- `judge::writing::sheet_length` meets its contract.
+-- `sheet::sheet_length` meets its contract.
 -- Assumes nothing.
 use native.Mathlib.Omega.{arith}
 use Rattle.rules.specs.Sheet.{figuresAt, endAt, sheetLength}
 use borrow.Author.Needs.{needs}
-use Rattle.judge.proofs.writing.sheet_length.Statement.{statement}
-use Rattle.judge.proofs.writing.sheet_length.Tie as tie
+use Rattle.sheet.proofs.sheet_length.Statement.{statement}
+use Rattle.sheet.proofs.sheet_length.Tie as tie
 
 end-at-requires : tie.Need-end-at-requires
 end-at-requires c κs = search needs
