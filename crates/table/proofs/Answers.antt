@@ -1,4 +1,4 @@
--- A stage's answer by what its tests do, and what all of them leave.
+-- Whether bits are all there, and what all stages leave.
 use mathlib.Core.Path.{_≡_, refl, sym, ap, _∙_}
 use mathlib.Core.Bool.{Bool, true, false, not}
 use mathlib.Core.List.{List, []}
@@ -7,21 +7,19 @@ use lib.ListN.{length}
 use borrow.Author.Tests.{not-true, not-false, leb-false}
 use Rattle.bits.specs.Field.{within}
 use Rattle.bits.proofs.Laws.{within-le}
-use Rattle.rules.specs.declared.Reading.{Reading}
 use Rattle.rules.specs.declared.Reading.the-variants as answer
 use Rattle.rules.specs.declared.Table.{Table}
 use Rattle.rules.specs.declared.TableRead.{TableRead}
 use Rattle.rules.specs.Numbers.{wiresMost, channelsMost, hopsMost, routesMost}
-use Rattle.rules.specs.Replies.{Reply, granted, refused, readingReply}
+use Rattle.rules.specs.Replies.{granted, refused, readingReply}
 use Rattle.rules.specs.Bounds.{cost, times}
 use Rattle.rules.specs.Table.{View, viewOf, rateOf, propOf, roomOf}
 use Rattle.rules.specs.Reading.{reading}
 use Rattle.rules.specs.Decoded.{column, hopOf, tableOf, noTable, tableLeft}
-use Rattle.rules.proofs.Tests.{Through, Stops}
 use Rattle.table.specs.declared.Head.{Head}
 use Rattle.table.specs.declared.Wires.{Wires}
 use Rattle.table.specs.declared.Channels.{Channels}
-use Rattle.table.specs.Stages.{after, IfRead, HeadRead, WiresRead, ChannelsRead, wholeOf}
+use Rattle.table.specs.Stages.{HeadRead, WiresRead, ChannelsRead, wholeOf}
 
 -- a test of `holds`, that bits are all there
 module _ (s : List ℕ) (at w : ℕ) (b : Bool) (e : b ≡ within s at w) where
@@ -31,32 +29,12 @@ module _ (s : List ℕ) (at w : ℕ) (b : Bool) (e : b ≡ within s at w) where
   pub missed : not b ≡ true → 8 * length s < at + w
   missed h = leb-false (at + w) (8 * length s) (sym e ∙ not-true b h)
 
--- what a stage's contract says: its tests f, what is left of them where they pass, and what holds of what it read
-abbrev pub Answers : (Reply → Reply) → (Reply → Reply) → Type 0 → Reading → Type 0
-Answers f left P a = ((rest : Reply) → f rest ≡ after a (left rest)) × IfRead a P
-
-pub refusal : {f : Reply → Reply} (left : Reply → Reply) (P : Type 0) (a : Reading) (n p : ℕ) → a ≡ answer.Refused n p → Stops f n p → Answers f left P a
-refusal left P a n p e h = rw e (h, tt)
-
-pub passage : {f : Reply → Reply} (P : Type 0) (a : Reading) → a ≡ answer.Read → Through f → P → Answers f (λ rest. rest) P a
-passage P a e h p = rw e (h, p)
-
--- and back, of a stage that was called
-module _ (f left : Reply → Reply) (a : Reading) (h : (rest : Reply) → f rest ≡ after a (left rest)) where
-  pub refused-by : (n p : ℕ) → a ≡ answer.Refused n p → Stops f n p
-  refused-by n p e rest = h rest ∙ rw e
-
-  pub passed-by : a ≡ answer.Read → (rest : Reply) → f rest ≡ left rest
-  passed-by e rest = h rest ∙ rw e
-
-pub read-of : (P : Type 0) (a : Reading) → a ≡ answer.Read → IfRead a P → P
-read-of P a e h = rw e at h
-
 -- what `read` leaves, where the reading is refused or granted
 abbrev pub Left : List ℕ → TableRead → Type 0
 Left s r = (readingReply (r .answer) ≡ reading s) × (r .table ≡ tableLeft (reading s) (viewOf s))
 
-pub left-refused : (s : List ℕ) (n p : ℕ) (r : TableRead) → reading s ≡ refused n p → (r .answer ≡ answer.Refused n p) × (r .table ≡ noTable) → Left s r
+pub left-refused : (s : List ℕ) (n p : ℕ) (r : TableRead) → reading s ≡ refused n p
+    → (r .answer ≡ answer.Refused n p) × (r .table ≡ noTable) → Left s r
 unfolding tableLeft
 left-refused s n p r e h = rw (e, h .0, h .1) (refl, refl)
 

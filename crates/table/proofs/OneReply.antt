@@ -18,7 +18,8 @@ module _ (κs : Lfts 0) where
   none-one a r r' e e' p q = p ∙ sym q
 
 module _ (κs : Lfts 1) where
-  pub read-one : (a : ArgsD read.signature κs) (r r' : ResD read.signature κs) (e e' : AtExit (endedOf 1 read-kinds.ps read-kinds.r) κs)
+  pub read-one :
+      (a : ArgsD read.signature κs) (r r' : ResD read.signature κs) (e e' : AtExit (endedOf 1 read-kinds.ps read-kinds.r) κs)
       → read-reads.Post κs a r e → read-reads.Post κs a r' e' → r ≡ r'
   read-one a r r' e e' p q =
       let answers = reading-one (r .answer) (r' .answer) (p .0 ∙ sym (q .0)) in

@@ -7,26 +7,18 @@ use Rattle.rules.specs.declared.Reading.{Reading}
 use Rattle.rules.specs.declared.Reading.the-variants as answer
 use Rattle.rules.specs.declared.TableRead.{TableRead}
 use Rattle.rules.specs.Numbers.{wiresMost, channelsMost, hopsMost, routesMost, tableLongest, fixedBits, hopBits}
-use Rattle.rules.specs.Replies.{Reply, refused}
+use Rattle.rules.specs.Replies.{Reply, after}
 use Rattle.rules.specs.Price.{price}
 use Rattle.rules.specs.Bounds.{cost, times}
-use Rattle.rules.specs.Table.{viewOf, hyperOf, wiresOf, channelsOf, rateOf, propOf, roomOf, framingAt, payloadAt, periodAt, deadlineAt, hopsAt, routeAt, channelAt}
-use Rattle.rules.specs.Channel.{hopTests}
+use Rattle.rules.specs.Table.{viewOf, hyperOf, wiresOf, channelsOf, rateOf, propOf, roomOf, channelAt}
+use Rattle.rules.specs.Table.{framingAt, payloadAt, periodAt, deadlineAt, hopsAt, routeAt}
+use Rattle.rules.specs.Channel.{routeTests}
+use Rattle.rules.specs.Reading.{recordTests}
 use Rattle.rules.specs.Decoded.{column, hopOf}
 use Rattle.table.specs.declared.Head.{Head}
 use Rattle.table.specs.declared.Wires.{Wires}
 use Rattle.table.specs.declared.Fixed.{Fixed}
 use Rattle.table.specs.declared.Channels.{Channels}
-
--- the reply of a stage with this answer, which what follows has where nothing was refused
-abbrev pub after : Reading → Reply → Reply
-after answer.Read rest = rest
-after (answer.Refused number place) rest = refused number place
-
--- a fact of what was read, where nothing was refused
-abbrev pub IfRead : Reading → Type 0 → Type 0
-IfRead answer.Read P = P
-IfRead (answer.Refused number place) P = Unit {0}
 
 pub record HeadRead (s : List ℕ) (r : Head) : Type 0 where
   pub hyper : r .hyper ≡ hyperOf s
@@ -44,7 +36,10 @@ pub record WiresRead (s : List ℕ) (n : ℕ) (r : Wires) : Type 0 where
 
 -- what is left of the tests of a record after those of its fixed fields
 abbrev pub hopsLeft : List ℕ → ℕ → ℕ → Reply → Reply
-hopsLeft s c at rest = hopTests (wiresOf s) c 0 (routeAt s (at + fixedBits) (hopsAt s at)) rest
+hopsLeft s c at rest = routeTests (wiresOf s) c (routeAt s (at + fixedBits) (hopsAt s at)) rest
+
+abbrev pub FixedAnswered : List ℕ → ℕ → ℕ → Reading → Type 0
+FixedAnswered s c at a = (rest : Reply) → recordTests s c at rest ≡ after a (hopsLeft s c at rest)
 
 -- of the record that starts at bit `at`
 pub record FixedRead (s : List ℕ) (at : ℕ) (r : Fixed) : Type 0 where

@@ -1,16 +1,14 @@
 // Reading a table: tests 1 to 11 in one pass, each field read once.
 ghost use mathlib.Core.Path.{_≡_};
-ghost use Prim.Native.Nat.{_+_, _*_, _≤_, _<_};
+ghost use Prim.Native.Nat.{_*_, _≤_, _<_};
 ghost use lib.ListN.{length};
-ghost use Rattle.bits.specs.Field.{field, widest};
 ghost use Rattle.rules.specs.Numbers.{wiresMost, channelsMost, payloadMost, tableLongest};
-ghost use Rattle.rules.specs.Replies.{Reply, readingReply, each};
+ghost use Rattle.rules.specs.Replies.{Reply, readingReply, each, after, IfRead};
 ghost use Rattle.rules.specs.Price.{price as priceOf};
 ghost use Rattle.rules.specs.Table.{viewOf, hyperOf, wiresOf, endOf};
-ghost use Rattle.rules.specs.Reading.{headTests, wireTests, channelTests, recordTests, fillingTests, reading};
+ghost use Rattle.rules.specs.Reading.{headTests, wireTests, channelTests, fillingTests, reading};
 ghost use Rattle.rules.specs.Decoded.{tableLeft, noTable};
-ghost use Rattle.table.specs.Stages.{after, IfRead, HeadRead, WiresRead, FixedRead, ChannelsRead, hopsLeft, wholeOf};
-use bits::Taken;
+ghost use Rattle.table.specs.Stages.{HeadRead, WiresRead, FixedAnswered, FixedRead, ChannelsRead, wholeOf};
 use rules::Pricing;
 use rules::Reading;
 use rules::Table;
@@ -49,18 +47,6 @@ struct Channels {
     route: [u8; Table::ROUTES_MOST],
 }
 
-// A field whose bits are all there.
-fn field_at(s: &[u8], at: usize, width: usize) -> u64
-    requires { ⌜ width ≤ widest ⌝ }
-    requires { ⌜ at + width ≤ 8 * length (now s) ⌝ }
-    ensures { λ r. ⌜ r ≡ field (now (s .entry)) at width ⌝ }
-{
-    match bits::read(s, at, width) {
-        Taken::Number(n) => n,
-        Taken::Nothing => 0,
-    }
-}
-
 fn price_of(framing: u64, payload: u64) -> u64
     requires { ⌜ (framing < 2) × (1 ≤ payload) × (payload ≤ payloadMost) ⌝ }
     ensures { λ r. ⌜ r ≡ priceOf framing payload ⌝ }
@@ -84,9 +70,9 @@ fn head_of(s: &[u8]) -> Head
             channels: 0,
         };
     }
-    let hyper = field_at(s, 0, Table::HYPER_BITS);
-    let wires = field_at(s, Table::HYPER_BITS, Table::WIRES_BITS) as usize;
-    let channels = field_at(
+    let hyper = bits::number(s, 0, Table::HYPER_BITS);
+    let wires = bits::number(s, Table::HYPER_BITS, Table::WIRES_BITS) as usize;
+    let channels = bits::number(
         s,
         Table::HYPER_BITS + Table::WIRES_BITS,
         Table::CHANNELS_BITS,
@@ -131,14 +117,14 @@ fn wires_of(s: &[u8], n: usize) -> Wires
             break;
         }
         // No code has the rate 0.
-        let bytes = framing::rate(field_at(s, at, Table::RATE_BITS));
+        let bytes = framing::rate(bits::number(s, at, Table::RATE_BITS));
         if bytes == 0 {
             found = Reading::Refused(5, w as u64);
             break;
         }
         rate[w] = bytes;
-        prop[w] = field_at(s, at + Table::RATE_BITS, Table::PROP_BITS);
-        room[w] = field_at(
+        prop[w] = bits::number(s, at + Table::RATE_BITS, Table::PROP_BITS);
+        room[w] = bits::number(
             s,
             at + Table::RATE_BITS + Table::PROP_BITS,
             Table::ROOM_BITS,
@@ -168,7 +154,7 @@ fn no_fixed(number: u64, place: u64) -> Fixed
 fn fixed_of(s: &[u8], hyper: u64, c: usize, at: usize) -> Fixed
     requires { ⌜ hyper ≡ hyperOf (now s) ⌝ }
     requires { ⌜ at ≤ 8 * tableLongest ⌝ }
-    ensures { λ r. ⌜ ((rest : Reply) → recordTests (now (s .entry)) c at rest ≡ after (r .answer) (hopsLeft (now (s .entry)) c at rest)) ⌝ }
+    ensures { λ r. ⌜ FixedAnswered (now (s .entry)) c at (r .answer) ⌝ }
     ensures { λ r. ⌜ IfRead (r .answer) (FixedRead (now (s .entry)) at r) ⌝ }
 {
     let place = c as u64;
@@ -178,9 +164,9 @@ fn fixed_of(s: &[u8], hyper: u64, c: usize, at: usize) -> Fixed
     let payload_at = at + Table::FRAMING_BITS;
     let period_at = payload_at + Table::PAYLOAD_BITS;
     let deadline_at = period_at + Table::PERIOD_BITS;
-    let payload = field_at(s, payload_at, Table::PAYLOAD_BITS);
-    let period = field_at(s, period_at, Table::PERIOD_BITS);
-    let hops = field_at(s, deadline_at + Table::DEADLINE_BITS, Table::HOPS_BITS) as usize;
+    let payload = bits::number(s, payload_at, Table::PAYLOAD_BITS);
+    let period = bits::number(s, period_at, Table::PERIOD_BITS);
+    let hops = bits::number(s, deadline_at + Table::DEADLINE_BITS, Table::HOPS_BITS) as usize;
     if payload == 0 {
         return no_fixed(6, place);
     }
@@ -201,9 +187,9 @@ fn fixed_of(s: &[u8], hyper: u64, c: usize, at: usize) -> Fixed
     }
     Fixed {
         answer: Reading::Read,
-        price: price_of(field_at(s, at, Table::FRAMING_BITS), payload),
+        price: price_of(bits::number(s, at, Table::FRAMING_BITS), payload),
         times: hyper / period,
-        deadline: field_at(s, deadline_at, Table::DEADLINE_BITS),
+        deadline: bits::number(s, deadline_at, Table::DEADLINE_BITS),
         hops,
     }
 }
@@ -234,7 +220,7 @@ fn channels_of(s: &[u8], hyper: u64, n: usize, m: usize) -> Channels
         let count = fixed.hops;
         let mut least: u64 = 0;
         for i in 0..count {
-            let wire = field_at(s, at + Table::HOP_BITS * i, Table::HOP_BITS);
+            let wire = bits::number(s, at + Table::HOP_BITS * i, Table::HOP_BITS);
             if n as u64 <= wire {
                 found = Reading::Refused(9, c as u64);
                 break 'search;
@@ -272,7 +258,7 @@ fn filling_of(s: &[u8], end: usize) -> Reading
     if (end + 7) / 8 < s.len() {
         return Reading::Refused(11, 0);
     }
-    if field_at(s, end, 8 * s.len() - end) != 0 {
+    if bits::number(s, end, 8 * s.len() - end) != 0 {
         return Reading::Refused(11, 0);
     }
     Reading::Read

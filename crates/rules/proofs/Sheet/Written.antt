@@ -76,28 +76,28 @@ module _ (t : View) (held : FitsSheet t) where
         end-fits = λ k l. rw (ends k l) (held .end-fits k l);
       }
 
-  fits-view : fits (t .wires) (t .channels) (figuresOf t) ≡ true
-  fits-view = fits-true (t .wires) (t .channels) (figuresOf t) fits-held
+  view-fits : fits (t .wires) (t .channels) (figuresOf t) ≡ true
+  view-fits = fits-true (t .wires) (t .channels) (figuresOf t) fits-held
 
   module _ (lent : ℕ) where
     pub written-view : lengthOf t ≤ lent → writtenOf (t .wires) (t .channels) (figuresOf t) lent ≡ Length (lengthOf t)
-    written-view l = rw (fits-view, le-leb (lengthOf t) lent l)
+    written-view l = rw (view-fits, le-leb (lengthOf t) lent l)
 
     pub unwritten-view : lent < lengthOf t → writtenOf (t .wires) (t .channels) (figuresOf t) lent ≡ Nothing
-    unwritten-view l = rw (fits-view, lt-leb (lengthOf t) lent l)
+    unwritten-view l = rw (view-fits, lt-leb (lengthOf t) lent l)
 
     pub wrote-view : (v : List ℕ) → lengthOf t ≤ lent
         → wroteSheet (t .wires) (t .channels) (figuresOf t) lent ≡ leaves (granted v) t lent
     unfolding leaves sheet
     wrote-view v l =
         rw (
-          fits-view,
+          view-fits,
           le-leb (lengthOf t) lent l,
           sheetOf-same (t .wires) (t .channels) _ _ _ (backlog t) (delay t) (endToEnd t) backlogs delays ends,
         )
 
     pub unwrote-view : lent < lengthOf t → wroteSheet (t .wires) (t .channels) (figuresOf t) lent ≡ replicate lent 255
-    unwrote-view l = rw (fits-view, lt-leb (lengthOf t) lent l)
+    unwrote-view l = rw (view-fits, lt-leb (lengthOf t) lent l)
 
 -- ---- asking what was written
 

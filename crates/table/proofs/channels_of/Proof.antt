@@ -8,22 +8,24 @@ use native.Mathlib.Omega.{arith}
 use lib.ListN.{length, getD}
 use borrow.Author.Needs.{needs}
 use Rattle.bits.specs.Field.{field}
-use Rattle.bits.proofs.Laws.{field-lt}
+use Rattle.bits.proofs.Laws.{field-lt, number-is}
 use Rattle.rules.specs.declared.Reading.{Reading}
 use Rattle.rules.specs.declared.Reading.the-variants as answer
-use Rattle.rules.specs.Numbers.{headBits, wireBits, fixedBits, hopBits, wiresMost, channelsMost, hopsMost, routesMost, tableLongest}
+use Rattle.rules.specs.Numbers.{headBits, wireBits, fixedBits, hopBits}
+use Rattle.rules.specs.Numbers.{wiresMost, channelsMost, hopsMost, routesMost, tableLongest}
 use Rattle.rules.specs.Replies.{Reply, each}
 use Rattle.rules.specs.Bounds.{cost, times}
 use Rattle.rules.specs.Table.{viewOf, wiresOf, wireAt, hopsAt, routeAt, channelAt}
-use Rattle.rules.specs.Channel.{hopTests}
+use Rattle.rules.specs.Channel.{routeTests}
 use Rattle.rules.specs.Reading.{recordTests, channelTests}
 use Rattle.rules.specs.Decoded.{column, hopOf}
 use Rattle.rules.proofs.Tables.Columns.{column-none, column-set, routes-set, routes-next}
 use Rattle.rules.proofs.Tests.{Stops}
 use Rattle.rules.proofs.Tables.Laws.{length-route}
-use Rattle.rules.proofs.Tables.Search.{FromHere, from-start, from-next, from-stop, from-end, HopsHere, hops-start, hops-9, hops-10, hops-next, hops-end, getD-route, channel-record}
+use Rattle.rules.proofs.Tables.Search.{FromHere, from-start, from-next, from-stop, from-end, channel-record}
+use Rattle.rules.proofs.Tables.Search.{HopsHere, hops-start, hops-9, hops-10, hops-next, hops-end, getD-route}
+use Rattle.rules.proofs.Answers.{passage, refused-by, passed-by, read-of}
 use Rattle.table.specs.Stages.{FixedRead, hopsLeft}
-use Rattle.table.proofs.Answers.{passage, refused-by, passed-by, read-of}
 use Rattle.table.proofs.channels_of.Statement.{statement}
 use Rattle.table.proofs.channels_of.Tie as tie
 
@@ -116,12 +118,16 @@ module _ (c : tie.After-fixed-of Inv-loop μ-loop Inv-search μ-search) where
   abbrev from : ℕ
   from = c .before .before .search .end
 
+  begins : from ≡ channelAt s k
+  begins = c .before .before .search .inv .start
+
   -- the record's tests are the channel's
   tests : (rest : Reply) → channelTests s k rest ≡ recordTests s k from rest
-  tests rest = channel-record s k rest ∙ ap (λ (a : ℕ). recordTests s k a rest) (sym (c .before .before .search .inv .start))
+  tests rest = channel-record s k rest ∙ ap (λ (a : ℕ). recordTests s k a rest) (sym begins)
 
   stop : (number place : ℕ) → Stops (recordTests s k from) number place → Stops (each (channelTests s) 0 m) number place
-  stop number place h = from-stop (channelTests s) m k (omega arith) (c .before .before .search .inv .search) (λ rest. tests rest ∙ h rest)
+  stop number place h =
+      from-stop (channelTests s) m k (omega arith) (c .before .before .search .inv .search) (λ rest. tests rest ∙ h rest)
 
 add-at : tie.Need-add-at Inv-loop μ-loop Inv-search μ-search
 add-at c = omega arith
@@ -137,10 +143,17 @@ module _ (c : tie.After-enum-told Inv-loop μ-loop Inv-search μ-search) where
   fixed : FixedRead (s called) (from called) (called .fixed-of .result)
   fixed = read-of _ _ (c .enum-told .given .1) (called .fixed-of .ensures .1)
 
-  left : (rest : Reply) → recordTests (s called) (k called) (from called) rest ≡ hopTests (n called) (k called) 0 (routeAt (s called) (from called + fixedBits) count) rest
+  -- where the route starts
+  abbrev hops-from : ℕ
+  hops-from = from called + fixedBits
+
+  left : (rest : Reply)
+      → recordTests (s called) (k called) (from called) rest
+      ≡ routeTests (n called) (k called) (routeAt (s called) hops-from count) rest
   left rest =
       passed-by _ (hopsLeft (s called) (k called) (from called)) _ (called .fixed-of .ensures .0) (c .enum-told .given .1) rest
-      ∙ ap₂ (λ (w h : ℕ). hopTests w (k called) 0 (routeAt (s called) (from called + fixedBits) h) rest) (sym (st called .pre .1 .0)) (sym (fixed .hops))
+      ∙ ap₂ (λ (w h : ℕ). routeTests w (k called) (routeAt (s called) hops-from h) rest)
+      (sym (st called .pre .1 .0)) (sym (fixed .hops))
 
 loop-holds : tie.Need-loop-holds Inv-loop μ-loop Inv-search μ-search
 loop-holds c =
@@ -149,50 +162,62 @@ loop-holds c =
     record {
       most = omega arith;
       none = here .none;
-      hops = hops-start (s f) (n f) (k f) (from f + fixedBits) (count c);
+      hops = hops-start (s f) (n f) (k f) (hops-from c) (count c);
       routes = here .routes ∙ ap (λ (j : ℕ). column routesMost j (hopOf (viewOf (s f)))) (omega arith);
     }
 
 -- what bounds the sums
-short : (c : tie.After-enum-told Inv-loop μ-loop Inv-search μ-search) → (from (called c) ≤ 8 * tableLongest) × (count c ≤ hopsMost) × (from (called c) + fixedBits + hopBits * count c ≤ 8 * length (s (called c)))
+short : (c : tie.After-enum-told Inv-loop μ-loop Inv-search μ-search)
+    → (from (called c) ≤ 8 * tableLongest) × (count c ≤ hopsMost)
+    × (hops-from c + hopBits * count c ≤ 8 * length (s (called c)))
 short c = (omega arith, fixed c .hops-most, fixed c .route-inside)
 
-mul-field-at : tie.Need-mul-field-at Inv-loop μ-loop Inv-search μ-search
-mul-field-at c = omega (arith, short (c .before .before))
+mul-number : tie.Need-mul-number Inv-loop μ-loop Inv-search μ-search
+mul-number c = omega (arith, short (c .before .before))
 
-add-field-at : tie.Need-add-field-at Inv-loop μ-loop Inv-search μ-search
-add-field-at c = omega (arith, short (c .before .before))
+add-number : tie.Need-add-number Inv-loop μ-loop Inv-search μ-search
+add-number c = omega (arith, short (c .before .before))
 
-field-at-requires : tie.Need-field-at-requires Inv-loop μ-loop Inv-search μ-search
-field-at-requires c κs = omega (arith, short (c .before .before))
+number-requires : tie.Need-number-requires Inv-loop μ-loop Inv-search μ-search
+number-requires c κs = search needs
 
-module _ (c : tie.After-field-at Inv-loop μ-loop Inv-search μ-search) where
+module _ (c : tie.After-number Inv-loop μ-loop Inv-search μ-search) where
   abbrev channel : tie.After-enum-told Inv-loop μ-loop Inv-search μ-search
   channel = c .before .before .before
 
   abbrev hop : tie.At-loop Inv-loop μ-loop Inv-search μ-search
   hop = c .before .before
 
-  abbrev wire : ℕ
-  wire = c .field-at .result
+  abbrev i : ℕ
+  i = hop .loop .i
 
-  wire-is : wire ≡ field (s (called channel)) (from (called channel) + fixedBits + hopBits * hop .loop .i) hopBits
-  wire-is = c .field-at .ensures
+  abbrev bytes : List ℕ
+  bytes = s (called channel)
+
+  abbrev wire : ℕ
+  wire = c .number .result
+
+  wire-is : wire ≡ field bytes (hops-from channel + hopBits * i) hopBits
+  wire-is = c .number .ensures ∙ number-is bytes _ _ (omega arith) (omega (arith, short channel))
 
   wire-lt : wire < 64
-  wire-lt = omega (arith, wire-is, field-lt (s (called channel)) (from (called channel) + fixedBits + hopBits * hop .loop .i) hopBits)
+  wire-lt = omega (arith, wire-is, field-lt bytes (hops-from channel + hopBits * i) hopBits)
+
+  -- the channel is one of the table's
+  within : k (called channel) < m (called channel)
+  within = omega (arith, called channel .before)
 
 cast-route : tie.Need-cast-route Inv-loop μ-loop Inv-search μ-search
 cast-route c = omega (arith, wire-lt (c .before .before))
 
 mul-route : tie.Need-mul-route Inv-loop μ-loop Inv-search μ-search
-mul-route c = omega (arith, c .before .before .before .before .before .before .before .before .before)
+mul-route c = omega (arith, within (c .before .before), called (channel (c .before .before)) .before .before .before)
 
 add-route : tie.Need-add-route Inv-loop μ-loop Inv-search μ-search
-add-route c = omega (arith, short (channel (c .before .before)), c .before .before .before .before .before .before .before .before .before)
+add-route c = omega (arith, short (channel (c .before .before)), within (c .before .before))
 
 array-write-route : tie.Need-array-write-route Inv-loop μ-loop Inv-search μ-search
-array-write-route c = omega (arith, short (channel (c .before .before)), c .before .before .before .before .before .before .before .before)
+array-write-route c = omega (arith, short (channel (c .before .before)), within (c .before .before))
 
 add-least : tie.Need-add-least Inv-loop μ-loop Inv-search μ-search
 add-least c = omega (arith, wire-lt (c .before .before))
@@ -204,26 +229,30 @@ loop-less : tie.Need-loop-less Inv-loop μ-loop Inv-search μ-search
 loop-less c = omega arith
 
 -- the wire is the one that the view's route names
-named : (c : tie.After-field-at Inv-loop μ-loop Inv-search μ-search) → wire c ≡ getD (viewOf (s (called (channel c))) .route (k (called (channel c)))) (hop c .loop .i) 0
+named : (c : tie.After-number Inv-loop μ-loop Inv-search μ-search)
+    → wire c ≡ getD (viewOf (bytes c) .route (k (called (channel c)))) (i c) 0
 named c =
     let f = called (channel c) in
-    let e = f .before .before .search .inv .start in
+    let at = channelAt (s f) (k f) in
     wire-is c
-    ∙ ap (λ (a : ℕ). field (s f) (a + fixedBits + hopBits * hop c .loop .i) hopBits) e
-    ∙ sym (getD-route (s f) (channelAt (s f) (k f) + fixedBits) (hopsAt (s f) (channelAt (s f) (k f))) (hop c .loop .i)
-    (omega (arith, fixed (channel c) .hops, ap (hopsAt (s f)) e)))
+    ∙ ap (λ (a : ℕ). field (s f) (a + fixedBits + hopBits * i c) hopBits) (begins f)
+    ∙ sym (getD-route (s f) (at + fixedBits) (hopsAt (s f) at) (i c)
+    (omega (arith, fixed (channel c) .hops, ap (hopsAt (s f)) (begins f))))
 
 loop-again : tie.Need-loop-again Inv-loop μ-loop Inv-search μ-search
 loop-again c =
     let w = c .before .before in
-    let f = called (channel w) in
-    let here = hop w .loop .inv in
-    let i = hop w .loop .i in
+    let e = channel w in
+    let f = called e in
+    let lp = hop w .loop in
     record {
       most = omega arith;
-      none = here .none;
-      hops = hops-next (s f) (n f) (k f) (from f + fixedBits) (count (channel w)) i (hop w .loop .least) (omega arith) (here .hops) (wire w) (wire-is w) (omega arith) (omega arith);
-      routes = routes-set (viewOf (s f)) (k f) i (omega (arith, f .before)) (omega (arith, short (channel w))) (here .routes) (named w);
+      none = lp .inv .none;
+      hops =
+          hops-next (s f) (n f) (k f) (hops-from e) (count e) (lp .i) (lp .least) (omega arith) (lp .inv .hops) (wire w) (wire-is w)
+          (omega arith) (omega arith);
+      routes =
+          routes-set (viewOf (s f)) (k f) (lp .i) (omega (arith, within w)) (omega (arith, short e)) (lp .inv .routes) (named w);
     }
 
 mul-price : tie.Need-mul-price Inv-loop μ-loop Inv-search μ-search
@@ -264,41 +293,44 @@ search-less c = omega (arith, c .before .before .before .before .before)
 
 -- channel c's record is at its place in the view
 module _ (c : tie.After-enum-told Inv-loop μ-loop Inv-search μ-search) where
-  there : FixedRead (s (called c)) (channelAt (s (called c)) (k (called c))) (called c .fixed-of .result)
-  there = subst (λ (a : ℕ). FixedRead (s (called c)) a (called c .fixed-of .result)) (called c .before .before .search .inv .start) (fixed c)
+  abbrev f : tie.After-fixed-of Inv-loop μ-loop Inv-search μ-search
+  f = called c
 
-  hops-are : count c ≡ length (viewOf (s (called c)) .route (k (called c)))
-  hops-are = there .hops ∙ sym (length-route (s (called c)) _ _)
+  there : FixedRead (s f) (channelAt (s f) (k f)) (f .fixed-of .result)
+  there = subst (λ (a : ℕ). FixedRead (s f) a (f .fixed-of .result)) (begins f) (fixed c)
 
-  next : from (called c) + fixedBits + hopBits * count c ≡ channelAt (s (called c)) (k (called c) + 1)
+  hops-are : count c ≡ length (viewOf (s f) .route (k f))
+  hops-are = there .hops ∙ sym (length-route (s f) _ _)
+
+  next : hops-from c + hopBits * count c ≡ channelAt (s f) (k f + 1)
   unfolding channelAt
-  next = rw add-one (omega (arith, called c .before .before .search .inv .start, there .hops))
+  next = rw add-one (omega (arith, begins f, there .hops))
 
 search-again : tie.Need-search-again Inv-loop μ-loop Inv-search μ-search
 search-again c =
     let e = c .before .before in
-    let f = called e in
-    let here = f .before .before .search .inv in
-    let hop = c .before .loop .inv in
-    let t = viewOf (s f) in
-    let fits : k f < channelsMost = omega (arith, f .before) in
-    let done : count e ≤ c .before .loop .i = c .loop-test .left in
+    let r = called e in
+    let here = r .before .before .search .inv in
+    let lp = c .before .loop in
+    let hop = lp .inv in
+    let t = viewOf (s r) in
+    let fits : k r < channelsMost = omega (arith, r .before) in
+    let done : count e ≤ lp .i = c .loop-test .left in
     record {
-      most = omega (arith, f .before);
+      most = omega (arith, r .before);
       none = hop .none;
       search =
-          from-next (channelTests (s f)) (m f) (k f) (omega (arith, f .before)) (here .search)
-          (λ rest. tests f rest ∙ left e rest ∙ hops-end (s f) (n f) (k f) (from f + fixedBits) (count e) (c .before .loop .i) (c .before .loop .least) done (hop .hops) rest);
+          from-next (channelTests (s r)) (m r) (k r) (omega (arith, r .before)) (here .search)
+          (λ rest. tests r rest ∙ left e rest
+          ∙ hops-end (s r) (n r) (k r) (hops-from e) (count e) (lp .i) (lp .least) done (hop .hops) rest);
       start = next e;
       short = omega (arith, here .short, short e);
       inside = λ l. fixed e .route-inside;
-      prices = column-set channelsMost (cost t) (k f) fits (here .prices) (there e .price);
-      counts = column-set channelsMost (times t) (k f) fits (here .counts) (there e .times);
-      deadlines = column-set channelsMost (t .deadline) (k f) fits (here .deadlines) (there e .deadline);
-      lengths = column-set channelsMost (λ j. length (t .route j)) (k f) fits (here .lengths) (hops-are e);
-      routes =
-          hop .routes
-          ∙ routes-next t (k f) (c .before .loop .i) (omega (arith, hop .most, short e)) (omega (arith, done, hops-are e));
+      prices = column-set channelsMost (cost t) (k r) fits (here .prices) (there e .price);
+      counts = column-set channelsMost (times t) (k r) fits (here .counts) (there e .times);
+      deadlines = column-set channelsMost (t .deadline) (k r) fits (here .deadlines) (there e .deadline);
+      lengths = column-set channelsMost (λ j. length (t .route j)) (k r) fits (here .lengths) (hops-are e);
+      routes = hop .routes ∙ routes-next t (k r) (lp .i) (omega (arith, hop .most, short e)) (omega (arith, done, hops-are e));
     }
 
 returns : tie.Need-returns Inv-loop μ-loop Inv-search μ-search
@@ -327,18 +359,24 @@ returns-2 c =
 returns-3 : tie.Need-returns-3 Inv-loop μ-loop Inv-search μ-search
 returns-3 c =
     let w = c .before in
-    let f = called (channel w) in (
-      stop f 9 (k f) (λ rest. left (channel w) rest
-          ∙ hops-9 (s f) (n f) (k f) (from f + fixedBits) (count (channel w)) (hop w .loop .i) (hop w .loop .least) (omega arith) (hop w .loop .inv .hops) (wire w) (wire-is w) (omega arith) rest),
+    let e = channel w in
+    let r = called e in
+    let lp = hop w .loop in (
+      stop r 9 (k r) (λ rest. left e rest
+          ∙ hops-9 (s r) (n r) (k r) (hops-from e) (count e) (lp .i) (lp .least) (omega arith) (lp .inv .hops) (wire w) (wire-is w)
+          (omega arith) rest),
       tt,
     )
 
 returns-4 : tie.Need-returns-4 Inv-loop μ-loop Inv-search μ-search
 returns-4 c =
     let w = c .before .before in
-    let f = called (channel w) in (
-      stop f 10 (k f) (λ rest. left (channel w) rest
-          ∙ hops-10 (s f) (n f) (k f) (from f + fixedBits) (count (channel w)) (hop w .loop .i) (hop w .loop .least) (omega arith) (hop w .loop .inv .hops) (wire w) (wire-is w) (omega arith) (omega arith) rest),
+    let e = channel w in
+    let r = called e in
+    let lp = hop w .loop in (
+      stop r 10 (k r) (λ rest. left e rest
+          ∙ hops-10 (s r) (n r) (k r) (hops-from e) (count e) (lp .i) (lp .least) (omega arith) (lp .inv .hops) (wire w) (wire-is w)
+          (omega arith) (omega arith) rest),
       tt,
     )
 
@@ -358,9 +396,9 @@ channels-of-spec =
     enum-told
     add-at
     loop-holds
-    mul-field-at
-    add-field-at
-    field-at-requires
+    mul-number
+    add-number
+    number-requires
     cast-route
     mul-route
     add-route

@@ -2,7 +2,10 @@
 use mathlib.Core.Path.{_≡_, sym, _∙_}
 use mathlib.Core.List.{List}
 use native.Mathlib.Omega.{arith}
-use Prim.Native.Nat.{ℕ}
+use Prim.Native.Nat.{ℕ, _-_, _*_}
+use lib.ListN.{length}
+use borrow.Author.Needs.{needs}
+use Rattle.bits.proofs.Laws.{number-is}
 use Rattle.rules.specs.Table.{endOf, fillingOf}
 use Rattle.rules.proofs.Tables.Search.{filling-is, filling-long, filling-not-0, filling-passes}
 use Rattle.table.proofs.filling_of.Statement.{statement}
@@ -16,24 +19,29 @@ returns c =
     let st = c .before .before in
     filling-long (st .args .s .now) (omega (arith, st .pre .0))
 
-mul-field-at : tie.Need-mul-field-at
-mul-field-at c = omega arith
+mul-number : tie.Need-mul-number
+mul-number c = omega arith
 
-sub-field-at : tie.Need-sub-field-at
-sub-field-at c = omega arith
+sub-number : tie.Need-sub-number
+sub-number c = omega arith
 
-field-at-requires : tie.Need-field-at-requires
-field-at-requires c κs = omega arith
+number-requires : tie.Need-number-requires
+number-requires c κs = search needs
 
-module _ (c : tie.After-field-at) where
+module _ (c : tie.After-number) where
   abbrev st : tie.Start
   st = c .before .before .before
 
   abbrev s : List ℕ
   s = st .args .s .now
 
-  filled : c .field-at .result ≡ fillingOf s (endOf s)
-  filled = filling-is s (st .args .end) _ (c .field-at .ensures) (st .pre .0) (omega arith)
+  abbrev left : ℕ
+  left = 8 * length s - st .args .end
+
+  filled : c .number .result ≡ fillingOf s (endOf s)
+  filled =
+      filling-is s (st .args .end) left (c .number .ensures ∙ number-is s _ left (omega arith) (omega arith)) (st .pre .0)
+      (omega arith)
 
 returns-2 : tie.Need-returns-2
 returns-2 c =
@@ -46,4 +54,4 @@ returns-3 c =
 pub filling-of-spec : {M : Type 1} → statement M
 filling-of-spec =
     tie.close
-    (tie.spec add-if1 returns mul-field-at sub-field-at field-at-requires returns-2 returns-3)
+    (tie.spec add-if1 returns mul-number sub-number number-requires returns-2 returns-3)

@@ -6,21 +6,25 @@ use Prim.Native.Nat.{ℕ, _+_, _*_, _/_, _%_, _≤_, _<_}
 use native.Mathlib.Omega.{arith}
 use lib.ListN.{length}
 use borrow.Author.Needs.{needs}
-use Rattle.bits.proofs.Laws.{field-lt}
-use Rattle.rules.specs.Numbers.{fixedBits, hopBits}
+use Rattle.bits.proofs.Laws.{field-lt, number-is}
+use Rattle.rules.specs.Numbers.{fixedBits, framingBits, payloadBits, hopBits}
 use Rattle.rules.specs.Price.{price}
 use Rattle.rules.specs.Table.{hyperOf, framingAt, payloadAt, periodAt, deadlineAt, hopsAt}
 use Rattle.rules.proofs.Tables.Search.{record-1, record-6, record-7, record-8, record-route, record-hops}
-use Rattle.table.proofs.Answers.{held, missed, refusal}
+use Rattle.rules.proofs.Answers.{refusal}
+use Rattle.table.proofs.Answers.{held, missed}
 use Rattle.table.proofs.fixed_of.Statement.{statement}
 use Rattle.table.proofs.fixed_of.Tie as tie
 
-module _ (c : tie.Start) where
+module _ (st : tie.Start) where
   abbrev s : List ℕ
-  s = c .args .s .now
+  s = st .args .s .now
+
+  abbrev k : ℕ
+  k = st .args .c
 
   abbrev at : ℕ
-  at = c .args .at
+  at = st .args .at
 
 holds-requires : tie.Need-holds-requires
 holds-requires c κs = search needs
@@ -33,7 +37,8 @@ returns c =
     let st = c .before .before .before .before in
     let holds = c .before .before .holds in
     refusal _ _ _ 1 0 (c .no-fixed .ensures)
-    (record-1 (s st) (st .args .c) (at st) (missed (s st) (at st) fixedBits (holds .result) (holds .ensures) (c .before .if1 .taken)))
+    (record-1 (s st) (k st) (at st)
+    (missed (s st) (at st) fixedBits (holds .result) (holds .ensures) (c .before .if1 .taken)))
 
 add-payload-at : tie.Need-add-payload-at
 add-payload-at c = search needs
@@ -49,36 +54,40 @@ inside c =
     let st = c .before .before .before in
     held (s st) (at st) fixedBits (c .before .holds .result) (c .before .holds .ensures) (c .if1 .left)
 
-field-at-requires : tie.Need-field-at-requires
-field-at-requires c κs = omega (arith, inside c)
+number-requires : tie.Need-number-requires
+number-requires c κs = search needs
 
-field-at-requires-2 : tie.Need-field-at-requires-2
-field-at-requires-2 c κs = omega (arith, inside (c .before))
+number-requires-2 : tie.Need-number-requires-2
+number-requires-2 c κs = search needs
 
-add-field-at : tie.Need-add-field-at
-add-field-at c = search needs
+add-number : tie.Need-add-number
+add-number c = search needs
 
-field-at-requires-3 : tie.Need-field-at-requires-3
-field-at-requires-3 c κs = omega (arith, inside (c .before .before))
+number-requires-3 : tie.Need-number-requires-3
+number-requires-3 c κs = search needs
 
-module _ (c : tie.After-field-at3) where
+module _ (c : tie.After-number3) where
   abbrev st : tie.Start
   st = c .before .before .before .before .before .before
 
   there : at st + fixedBits ≤ 8 * length (s st)
   there = inside (c .before .before .before)
 
-  payload : c .before .before .field-at .result ≡ payloadAt (s st) (at st)
+  payload : c .before .before .number .result ≡ payloadAt (s st) (at st)
   unfolding payloadAt
-  payload = c .before .before .field-at .ensures
+  payload = c .before .before .number .ensures ∙ number-is (s st) _ _ (omega arith) (omega (arith, there))
 
-  period : c .before .field-at2 .result ≡ periodAt (s st) (at st)
+  period : c .before .number2 .result ≡ periodAt (s st) (at st)
   unfolding periodAt
-  period = c .before .field-at2 .ensures
+  period = c .before .number2 .ensures ∙ number-is (s st) _ _ (omega arith) (omega (arith, there))
 
-  hops : c .field-at3 .result ≡ hopsAt (s st) (at st)
+  hops : c .number3 .result ≡ hopsAt (s st) (at st)
   unfolding hopsAt
-  hops = c .field-at3 .ensures
+  hops = c .number3 .ensures ∙ number-is (s st) _ _ (omega arith) (omega (arith, there))
+
+  -- what is left of H by the period
+  divided : st .args .hyper % c .before .number2 .result ≡ hyperOf (s st) % periodAt (s st) (at st)
+  divided = ap₂ (λ (h p : ℕ). h % p) (st .pre .0) period
 
 no-fixed-requires-2 : tie.Need-no-fixed-requires-2
 no-fixed-requires-2 c κs = search needs
@@ -86,7 +95,8 @@ no-fixed-requires-2 c κs = search needs
 returns-2 : tie.Need-returns-2
 returns-2 c =
     let f = c .before .before in
-    refusal _ _ _ 6 _ (c .no-fixed2 .ensures) (record-6 (s (st f)) (st f .args .c) (at (st f)) (there f) (omega (arith, payload f)))
+    let b = st f in
+    refusal _ _ _ 6 _ (c .no-fixed2 .ensures) (record-6 (s b) (k b) (at b) (there f) (omega (arith, payload f)))
 
 no-fixed-requires-3 : tie.Need-no-fixed-requires-3
 no-fixed-requires-3 c κs = search needs
@@ -94,15 +104,13 @@ no-fixed-requires-3 c κs = search needs
 returns-3 : tie.Need-returns-3
 returns-3 c =
     let f = c .before .before .before in
+    let b = st f in
     refusal _ _ _ 7 _ (c .no-fixed3 .ensures)
-    (record-7 (s (st f)) (st f .args .c) (at (st f)) (there f) (omega (arith, payload f, c .before .before .if2 .left)) (inl (sym (period f) ∙ c .before .if3 .taken)))
+    (record-7 (s b) (k b) (at b) (there f) (omega (arith, payload f, c .before .before .if2 .left))
+    (inl (sym (period f) ∙ c .before .if3 .taken)))
 
 rem-if4 : tie.Need-rem-if4
 rem-if4 c = search needs
-
--- what is left of H by the period
-divided : (f : tie.After-field-at3) → st f .args .hyper % f .before .field-at2 .result ≡ hyperOf (s (st f)) % periodAt (s (st f)) (at (st f))
-divided f = ap₂ (λ (h p : ℕ). h % p) (st f .pre .0) (period f)
 
 no-fixed-requires-4 : tie.Need-no-fixed-requires-4
 no-fixed-requires-4 c κs = search needs
@@ -110,17 +118,21 @@ no-fixed-requires-4 c κs = search needs
 returns-4 : tie.Need-returns-4
 returns-4 c =
     let f = c .before .before .before .before in
+    let b = st f in
     refusal _ _ _ 7 _ (c .no-fixed4 .ensures)
-    (record-7 (s (st f)) (st f .args .c) (at (st f)) (there f) (omega (arith, payload f)) (inr (λ e. c .before .if4 .taken (divided f ∙ e))))
+    (record-7 (s b) (k b) (at b) (there f) (omega (arith, payload f)) (inr (λ e. c .before .if4 .taken (divided f ∙ e))))
 
 module _ (c : tie.Else4) where
-  abbrev fields : tie.After-field-at3
+  abbrev fields : tie.After-number3
   fields = c .before .before .before
 
-  some : 1 ≤ payloadAt (s (st fields)) (at (st fields))
+  abbrev begun : tie.Start
+  begun = st fields
+
+  some : 1 ≤ payloadAt (s begun) (at begun)
   some = omega (arith, payload fields)
 
-  divides : (0 < periodAt (s (st fields)) (at (st fields))) × (hyperOf (s (st fields)) % periodAt (s (st fields)) (at (st fields)) ≡ 0)
+  divides : (0 < periodAt (s begun) (at begun)) × (hyperOf (s begun) % periodAt (s begun) (at begun) ≡ 0)
   divides = (omega (arith, period fields), sym (divided fields) ∙ c .if4 .left)
 
 no-fixed-requires-5 : tie.Need-no-fixed-requires-5
@@ -129,9 +141,9 @@ no-fixed-requires-5 c κs = search needs
 returns-5 : tie.Need-returns-5
 returns-5 c =
     let g = c .before .before in
-    let f = fields g in
+    let b = begun g in
     refusal _ _ _ 8 _ (c .no-fixed5 .ensures)
-    (record-8 (s (st f)) (st f .args .c) (at (st f)) (there f) (some g) (divides g) (inl (omega (arith, hops f))))
+    (record-8 (s b) (k b) (at b) (there (fields g)) (some g) (divides g) (inl (omega (arith, hops (fields g)))))
 
 no-fixed-requires-6 : tie.Need-no-fixed-requires-6
 no-fixed-requires-6 c κs = search needs
@@ -139,9 +151,9 @@ no-fixed-requires-6 c κs = search needs
 returns-6 : tie.Need-returns-6
 returns-6 c =
     let g = c .before .before .before in
-    let f = fields g in
+    let b = begun g in
     refusal _ _ _ 8 _ (c .no-fixed6 .ensures)
-    (record-8 (s (st f)) (st f .args .c) (at (st f)) (there f) (some g) (divides g) (inr (omega (arith, hops f))))
+    (record-8 (s b) (k b) (at b) (there (fields g)) (some g) (divides g) (inr (omega (arith, hops (fields g)))))
 
 add-holds : tie.Need-add-holds
 add-holds c = search needs
@@ -159,50 +171,72 @@ returns-7 : tie.Need-returns-7
 returns-7 c =
     let g = c .before .before .before .before .before in
     let f = fields g in
+    let b = begun g in
     let holds = c .before .before .holds2 in
-    let short : 8 * length (s (st f)) < at (st f) + fixedBits + hopBits * f .field-at3 .result
-    = missed (s (st f)) (at (st f) + fixedBits) (hopBits * f .field-at3 .result) (holds .result) (holds .ensures) (c .before .if7 .taken) in
+    let bits = hopBits * f .number3 .result in
+    let short : 8 * length (s b) < at b + fixedBits + bits
+    = missed (s b) (at b + fixedBits) bits (holds .result) (holds .ensures) (c .before .if7 .taken) in
     refusal _ _ _ 1 0 (c .no-fixed7 .ensures)
-    (record-route (s (st f)) (st f .args .c) (at (st f)) (there f) (some g) (divides g) (omega (arith, hops f)) (omega (arith, hops f, short)))
+    (record-route (s b) (k b) (at b) (there f) (some g) (divides g) (omega (arith, hops f)) (omega (arith, hops f, short)))
 
-field-at-requires-4 : tie.Need-field-at-requires-4
-field-at-requires-4 c κs = omega (arith, there (fields (c .before .before .before .before)))
+number-requires-4 : tie.Need-number-requires-4
+number-requires-4 c κs = search needs
+
+module _ (c : tie.After-number4) where
+  abbrev passed : tie.Else4
+  passed = c .before .before .before .before .before
+
+  framing : c .number4 .result ≡ framingAt (s (begun passed)) (at (begun passed))
+  unfolding framingAt
+  framing = c .number4 .ensures ∙ number-is (s (begun passed)) _ _ (omega arith) (omega (arith, there (fields passed)))
 
 price-of-requires : tie.Need-price-of-requires
+unfolding framingAt payloadAt
 price-of-requires c κs =
-    let f = fields (c .before .before .before .before .before) in
-    let a = st f .args in
-    omega (arith, payload f, field-lt (a .s .now) (a .at) 1, field-lt (a .s .now) (a .at + 1) 16)
+    let f = fields (passed c) in
+    let b = st f in (
+      omega (arith, framing c, field-lt (s b) (at b) framingBits),
+      omega (arith, payload f),
+      omega (arith, payload f, field-lt (s b) (at b + framingBits) payloadBits),
+    )
 
 div-t19 : tie.Need-div-t19
 div-t19 c = search needs
 
-field-at-requires-5 : tie.Need-field-at-requires-5
-field-at-requires-5 c κs = omega (arith, there (fields (c .before .before .before .before .before .before)))
+number-requires-5 : tie.Need-number-requires-5
+number-requires-5 c κs = search needs
 
-framing : (c : tie.After-field-at4) → let f = fields (c .before .before .before .before .before) in c .field-at4 .result ≡ framingAt (s (st f)) (at (st f))
-unfolding framingAt
-framing c = c .field-at4 .ensures
+module _ (c : tie.After-number5) where
+  abbrev framed : tie.After-number4
+  framed = c .before .before
 
-deadline : (c : tie.After-field-at5) → let f = fields (c .before .before .before .before .before .before .before) in c .field-at5 .result ≡ deadlineAt (s (st f)) (at (st f))
-unfolding deadlineAt
-deadline c = c .field-at5 .ensures
+  abbrev all : tie.Else4
+  all = passed framed
+
+  deadline : c .number5 .result ≡ deadlineAt (s (begun all)) (at (begun all))
+  unfolding deadlineAt
+  deadline = c .number5 .ensures ∙ number-is (s (begun all)) _ _ (omega arith) (omega (arith, there (fields all)))
+
+  route : at (begun all) + fixedBits + hopBits * fields all .number3 .result ≤ 8 * length (s (begun all))
+  route =
+      let left = framed .before in
+      let holds = left .before .holds2 in
+      held (s (begun all)) (at (begun all) + fixedBits) (hopBits * fields all .number3 .result) (holds .result) (holds .ensures)
+      (left .if7 .left)
 
 returns-8 : tie.Need-returns-8
 returns-8 c =
-    let g = c .before .before .before .before .before .before .before in
+    let g = all c in
     let f = fields g in
-    let holds = c .before .before .before .before .holds2 in
-    let route : at (st f) + fixedBits + hopBits * f .field-at3 .result ≤ 8 * length (s (st f))
-    = held (s (st f)) (at (st f) + fixedBits) (hopBits * f .field-at3 .result) (holds .result) (holds .ensures) (c .before .before .before .if7 .left) in (
-      record-hops (s (st f)) (st f .args .c) (at (st f)) (there f) (some g) (divides g) (omega (arith, hops f)) (omega (arith, hops f, route)),
+    let b = begun g in (
+      record-hops (s b) (k b) (at b) (there f) (some g) (divides g) (omega (arith, hops f)) (omega (arith, hops f, route c)),
       record {
-        price = c .before .price-of .ensures ∙ ap₂ price (framing (c .before .before)) (payload f);
-        times = ap₂ (λ (h p : ℕ). h / p) (st f .pre .0) (period f);
+        price = c .before .price-of .ensures ∙ ap₂ price (framing (framed c)) (payload f);
+        times = ap₂ (λ (h p : ℕ). h / p) (b .pre .0) (period f);
         deadline = deadline c;
         hops = hops f;
         hops-most = omega arith;
-        route-inside = route;
+        route-inside = route c;
       },
     )
 
@@ -216,10 +250,10 @@ fixed-of-spec =
     add-payload-at
     add-period-at
     add-deadline-at
-    field-at-requires
-    field-at-requires-2
-    add-field-at
-    field-at-requires-3
+    number-requires
+    number-requires-2
+    add-number
+    number-requires-3
     no-fixed-requires-2
     returns-2
     no-fixed-requires-3
@@ -236,8 +270,8 @@ fixed-of-spec =
     holds-requires-2
     no-fixed-requires-7
     returns-7
-    field-at-requires-4
+    number-requires-4
     price-of-requires
     div-t19
-    field-at-requires-5
+    number-requires-5
     returns-8)

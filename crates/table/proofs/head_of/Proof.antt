@@ -1,11 +1,12 @@
 -- `table::head_of` meets its contract: each return by the tests that led there.
-use mathlib.Core.Path.{_≡_}
+use mathlib.Core.Path.{_≡_, _∙_}
 use mathlib.Core.Logic.{inl, inr}
 use mathlib.Core.List.{List}
 use Prim.Native.Nat.{ℕ, _*_, _≤_}
 use native.Mathlib.Omega.{arith}
 use lib.ListN.{length}
 use borrow.Author.Needs.{needs}
+use Rattle.bits.proofs.Laws.{number-is}
 use Rattle.rules.specs.Numbers.{headBits}
 use Rattle.rules.specs.Table.{hyperOf, wiresOf, channelsOf}
 use Rattle.rules.proofs.Tables.Search.{head-1, head-2, head-3, head-4, head-passes}
@@ -23,38 +24,40 @@ returns c =
     (head-1 s (missed s 0 headBits (holds .result) (holds .ensures) (c .if1 .taken)), tt)
 
 inside : (c : tie.Else1) → headBits ≤ 8 * length (c .before .before .before .args .s .now)
-inside c = held (c .before .before .before .args .s .now) 0 headBits (c .before .holds .result) (c .before .holds .ensures) (c .if1 .left)
+inside c =
+    let holds = c .before .holds in
+    held (c .before .before .before .args .s .now) 0 headBits (holds .result) (holds .ensures) (c .if1 .left)
 
-field-at-requires : tie.Need-field-at-requires
-field-at-requires c κs = omega (arith, inside c)
+number-requires : tie.Need-number-requires
+number-requires c κs = search needs
 
-field-at-requires-2 : tie.Need-field-at-requires-2
-field-at-requires-2 c κs = omega (arith, inside (c .before))
+number-requires-2 : tie.Need-number-requires-2
+number-requires-2 c κs = search needs
 
-add-field-at : tie.Need-add-field-at
-add-field-at c = search needs
+add-number : tie.Need-add-number
+add-number c = search needs
 
-field-at-requires-3 : tie.Need-field-at-requires-3
-field-at-requires-3 c κs = omega (arith, inside (c .before .before))
+number-requires-3 : tie.Need-number-requires-3
+number-requires-3 c κs = search needs
 
-module _ (c : tie.After-field-at3) where
+module _ (c : tie.After-number3) where
   abbrev s : List ℕ
   s = c .before .before .before .before .before .before .args .s .now
 
   there : headBits ≤ 8 * length s
   there = inside (c .before .before .before)
 
-  hyper : c .before .before .field-at .result ≡ hyperOf s
+  hyper : c .before .before .number .result ≡ hyperOf s
   unfolding hyperOf
-  hyper = c .before .before .field-at .ensures
+  hyper = c .before .before .number .ensures ∙ number-is s _ _ (omega arith) (omega (arith, there))
 
-  wires : c .before .field-at2 .result ≡ wiresOf s
+  wires : c .before .number2 .result ≡ wiresOf s
   unfolding wiresOf
-  wires = c .before .field-at2 .ensures
+  wires = c .before .number2 .ensures ∙ number-is s _ _ (omega arith) (omega (arith, there))
 
-  channels : c .field-at3 .result ≡ channelsOf s
+  channels : c .number3 .result ≡ channelsOf s
   unfolding channelsOf
-  channels = c .field-at3 .ensures
+  channels = c .number3 .ensures ∙ number-is s _ _ (omega arith) (omega (arith, there))
 
 returns-2 : tie.Need-returns-2
 returns-2 c =
@@ -106,10 +109,10 @@ head-of-spec =
     (tie.spec
     holds-requires
     returns
-    field-at-requires
-    field-at-requires-2
-    add-field-at
-    field-at-requires-3
+    number-requires
+    number-requires-2
+    add-number
+    number-requires-3
     returns-2
     returns-3
     returns-4

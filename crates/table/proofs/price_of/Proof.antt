@@ -18,7 +18,8 @@ enum-known-p c = search needs
 enum-told : tie.Need-enum-told
 enum-told c = search needs
 
-reply : (c : tie.After-price) → pricingReply (c .price .result) ≡ granted (price (c .before .args .framing) (c .before .args .payload) ∷ [])
+reply : (c : tie.After-price)
+    → pricingReply (c .price .result) ≡ granted (price (c .before .args .framing) (c .before .args .payload) ∷ [])
 reply c =
     let a = c .before .args in
     c .price .ensures ∙ ask-granted (a .framing) (a .payload) (omega arith) (omega arith) (omega arith)

@@ -7,7 +7,8 @@ use Rattle.rules.specs.Replies.{Reply, granted, each}
 use Rattle.rules.specs.Table.{wiresOf, channelsOf, channelAt, endOf}
 use Rattle.rules.specs.Reading.{headTests, wireTests, channelTests, fillingTests, readingTests, reading}
 use Rattle.table.specs.Stages.{HeadRead, WiresRead, ChannelsRead}
-use Rattle.table.proofs.Answers.{refused-by, passed-by, read-of, left-refused, left-granted}
+use Rattle.rules.proofs.Answers.{refused-by, passed-by, read-of}
+use Rattle.table.proofs.Answers.{left-refused, left-granted}
 use Rattle.table.proofs.read.Statement.{statement}
 use Rattle.table.proofs.read.Tie as tie
 
@@ -33,7 +34,11 @@ module _ (c : tie.After-head-of) where
   abbrev m : ℕ
   m = c .head-of .result .channels
 
-start : (s : List ℕ) → reading s ≡ headTests s (each (wireTests s) 0 (wiresOf s) (each (channelTests s) 0 (channelsOf s) (fillingTests s (granted []))))
+-- the tests of n wires and m channels, and of the filling
+abbrev wires-on : List ℕ → ℕ → ℕ → Reply
+wires-on s n m = each (wireTests s) 0 n (each (channelTests s) 0 m (fillingTests s (granted [])))
+
+start : (s : List ℕ) → reading s ≡ headTests s (wires-on s (wiresOf s) (channelsOf s))
 unfolding reading readingTests
 start s = refl
 
@@ -54,12 +59,11 @@ module _ (c : tie.After-enum-told) where
   head-read : HeadRead (s headed) (headed .head-of .result)
   head-read = read-of _ _ (c .enum-told .given .1) (headed .head-of .ensures .1)
 
-  after-head : reading (s headed) ≡ each (wireTests (s headed)) 0 (n headed) (each (channelTests (s headed)) 0 (m headed) (fillingTests (s headed) (granted [])))
+  after-head : reading (s headed) ≡ wires-on (s headed) (n headed) (m headed)
   after-head =
       start (s headed)
       ∙ passed-by (headTests (s headed)) same _ (headed .head-of .ensures .0) (c .enum-told .given .1) _
-      ∙ ap₂ (λ (i j : ℕ). each (wireTests (s headed)) 0 i (each (channelTests (s headed)) 0 j (fillingTests (s headed) (granted []))))
-      (sym (head-read .wires)) (sym (head-read .channels))
+      ∙ ap₂ (wires-on (s headed)) (sym (head-read .wires)) (sym (head-read .channels))
 
 wires-of-requires : tie.Need-wires-of-requires
 wires-of-requires c κs = head-read c .wires-most
@@ -75,7 +79,8 @@ returns-2 c =
     let w = c .before .before .before .before in
     let h = headed (w .before) in
     left-refused (s h) _ _ (c .refused2 .result)
-    (after-head (w .before) ∙ refused-by (each (wireTests (s h)) 0 (n h)) same _ (w .wires-of .ensures .0) _ _ (c .before .before .answer2 .given .1) _)
+    (after-head (w .before)
+    ∙ refused-by (each (wireTests (s h)) 0 (n h)) same _ (w .wires-of .ensures .0) _ _ (c .before .before .answer2 .given .1) _)
     (c .refused2 .ensures)
 
 enum-told-2 : tie.Need-enum-told-2
@@ -112,7 +117,8 @@ returns-3 c =
     let w = c .before .before .before .before in
     let h = top (w .before) in
     left-refused (s h) _ _ (c .refused3 .result)
-    (after-wires (w .before) ∙ refused-by (each (channelTests (s h)) 0 (m h)) same _ (w .channels-of .ensures .0) _ _ (c .before .before .answer3 .given .1) _)
+    (after-wires (w .before)
+    ∙ refused-by (each (channelTests (s h)) 0 (m h)) same _ (w .channels-of .ensures .0) _ _ (c .before .before .answer3 .given .1) _)
     (c .refused3 .ensures)
 
 enum-told-3 : tie.Need-enum-told-3
@@ -151,7 +157,8 @@ returns-4 c =
     let f = c .before .before .before .before in
     let h = root (f .before) in
     left-refused (s h) _ _ (c .refused4 .result)
-    (after-channels (f .before) ∙ refused-by (fillingTests (s h)) same _ (f .filling-of .ensures) _ _ (c .before .before .number .given .1) _)
+    (after-channels (f .before)
+    ∙ refused-by (fillingTests (s h)) same _ (f .filling-of .ensures) _ _ (c .before .before .number .given .1) _)
     (c .refused4 .ensures)
 
 enum-told-4 : tie.Need-enum-told-4

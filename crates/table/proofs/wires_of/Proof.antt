@@ -6,6 +6,7 @@ use Prim.Native.Nat.{ℕ, _+_, _-_, _*_, _≤_, _<_}
 use native.Mathlib.Omega.{arith}
 use lib.ListN.{length, getD}
 use borrow.Author.Needs.{needs}
+use Rattle.bits.proofs.Laws.{number-is}
 use Rattle.rules.specs.declared.Reading.{Reading}
 use Rattle.rules.specs.declared.Reading.the-variants as answer
 use Rattle.rules.specs.Numbers.{rates, wireBits, wiresMost}
@@ -13,8 +14,10 @@ use Rattle.rules.specs.Table.{wireAt, codeOf, rateOf, propOf, roomOf}
 use Rattle.rules.specs.Reading.{wireTests}
 use Rattle.rules.specs.Decoded.{column}
 use Rattle.rules.proofs.Tables.Columns.{column-none, column-set}
-use Rattle.rules.proofs.Tables.Search.{FromHere, from-start, from-next, from-stop, from-end, wire-1, wire-5, wire-passes, no-rate, some-rate}
-use Rattle.table.proofs.Answers.{held, missed, passage}
+use Rattle.rules.proofs.Tables.Search.{FromHere, from-start, from-next, from-stop, from-end}
+use Rattle.rules.proofs.Tables.Search.{wire-1, wire-5, wire-passes, no-rate, some-rate}
+use Rattle.rules.proofs.Answers.{passage}
+use Rattle.table.proofs.Answers.{held, missed}
 use Rattle.table.proofs.wires_of.Statement.{statement}
 use Rattle.table.proofs.wires_of.Tie as tie
 
@@ -69,9 +72,8 @@ inside c =
     let i = c .before .before in
     held (s i) (wireAt (w i)) wireBits (c .before .holds .result) (c .before .holds .ensures) (c .if1 .left)
 
-field-at-requires : tie.Need-field-at-requires Inv-loop μ-loop
-unfolding wireAt
-field-at-requires c κs = omega (arith, inside c)
+number-requires : tie.Need-number-requires Inv-loop μ-loop
+number-requires c κs = search needs
 
 rate-requires : tie.Need-rate-requires Inv-loop μ-loop
 rate-requires c κs = search needs
@@ -80,9 +82,12 @@ module _ (c : tie.After-rate Inv-loop μ-loop) where
   abbrev top : tie.In-loop Inv-loop μ-loop
   top = c .before .before .before .before
 
-  code : c .before .field-at .result ≡ codeOf (s top) (w top)
+  whole : wireAt (w top) + wireBits ≤ 8 * length (s top)
+  whole = inside (c .before .before)
+
+  code : c .before .number .result ≡ codeOf (s top) (w top)
   unfolding codeOf wireAt
-  code = c .before .field-at .ensures
+  code = c .before .number .ensures ∙ number-is (s top) _ _ (omega arith) (omega (arith, whole))
 
   coded : c .rate .result ≡ getD rates (codeOf (s top) (w top)) 0
   coded = c .rate .ensures ∙ ap (λ (k : ℕ). getD rates k 0) code
@@ -97,12 +102,11 @@ mul-rate c = omega arith
 array-write-rate : tie.Need-array-write-rate Inv-loop μ-loop
 array-write-rate c = omega arith
 
-add-field-at : tie.Need-add-field-at Inv-loop μ-loop
-add-field-at c = omega arith
+add-number : tie.Need-add-number Inv-loop μ-loop
+add-number c = omega arith
 
-field-at-requires-2 : tie.Need-field-at-requires-2 Inv-loop μ-loop
-unfolding wireAt
-field-at-requires-2 c κs = omega (arith, inside (c .before .before .before))
+number-requires-2 : tie.Need-number-requires-2 Inv-loop μ-loop
+number-requires-2 c κs = search needs
 
 mul-prop : tie.Need-mul-prop Inv-loop μ-loop
 mul-prop c = omega arith
@@ -110,15 +114,14 @@ mul-prop c = omega arith
 array-write-prop : tie.Need-array-write-prop Inv-loop μ-loop
 array-write-prop c = omega arith
 
-add-field-at-2 : tie.Need-add-field-at-2 Inv-loop μ-loop
-add-field-at-2 c = omega arith
+add-number-2 : tie.Need-add-number-2 Inv-loop μ-loop
+add-number-2 c = omega arith
 
-add-field-at-3 : tie.Need-add-field-at-3 Inv-loop μ-loop
-add-field-at-3 c = omega arith
+add-number-3 : tie.Need-add-number-3 Inv-loop μ-loop
+add-number-3 c = omega arith
 
-field-at-requires-3 : tie.Need-field-at-requires-3 Inv-loop μ-loop
-unfolding wireAt
-field-at-requires-3 c κs = omega (arith, inside (c .before .before .before .before))
+number-requires-3 : tie.Need-number-requires-3 Inv-loop μ-loop
+number-requires-3 c κs = search needs
 
 mul-room : tie.Need-mul-room Inv-loop μ-loop
 mul-room c = omega arith
@@ -132,30 +135,34 @@ add-w c = omega arith
 loop-less : tie.Need-loop-less Inv-loop μ-loop
 loop-less c = omega arith
 
-module _ (c : tie.After-field-at3 Inv-loop μ-loop) where
+module _ (c : tie.After-number3 Inv-loop μ-loop) where
+  abbrev rated : tie.After-rate Inv-loop μ-loop
+  rated = c .before .before .before
+
   abbrev turn : tie.In-loop Inv-loop μ-loop
-  turn = top (c .before .before .before)
+  turn = top rated
 
   some : codeOf (s turn) (w turn) < length rates
-  some = some-rate (codeOf (s turn) (w turn)) (λ e. c .before .before .if2 .left (coded (c .before .before .before) ∙ e))
+  some = some-rate (codeOf (s turn) (w turn)) (λ e. c .before .before .if2 .left (coded rated ∙ e))
 
-  prop : c .before .field-at2 .result ≡ propOf (s turn) (w turn)
+  prop : c .before .number2 .result ≡ propOf (s turn) (w turn)
   unfolding propOf wireAt
-  prop = c .before .field-at2 .ensures
+  prop = c .before .number2 .ensures ∙ number-is (s turn) _ _ (omega arith) (omega (arith, whole rated))
 
-  room : c .field-at3 .result ≡ roomOf (s turn) (w turn)
+  room : c .number3 .result ≡ roomOf (s turn) (w turn)
   unfolding roomOf wireAt
-  room = c .field-at3 .ensures
+  room = c .number3 .ensures ∙ number-is (s turn) _ _ (omega arith) (omega (arith, whole rated))
 
 loop-again : tie.Need-loop-again Inv-loop μ-loop
 loop-again c =
-    let i = c .before .before .before .before .before .before .before in
-    let r = c .before .before .before in
+    let r = rated c in
+    let i = turn c in
     let here = i .before .loop .inv in
     record {
       most = omega arith;
       none = here .none;
-      search = from-next (wireTests (s i)) (n i) (w i) (omega arith) (here .search) (wire-passes (s i) (w i) (inside (r .before .before)) (some c));
+      search =
+          from-next (wireTests (s i)) (n i) (w i) (omega arith) (here .search) (wire-passes (s i) (w i) (whole r) (some c));
       rates = column-set wiresMost (rateOf (s i)) (w i) (omega arith) (here .rates) (bytes r);
       props = column-set wiresMost (propOf (s i)) (w i) (omega arith) (here .props) (prop c);
       rooms = column-set wiresMost (roomOf (s i)) (w i) (omega arith) (here .rooms) (room c);
@@ -163,14 +170,15 @@ loop-again c =
 
 returns : tie.Need-returns Inv-loop μ-loop
 returns c =
-    let st = c .before .before .before in
+    let a = c .before .before .before .args in
+    let bytes = a .s .now in
     let here = c .before .loop .inv in
-    let e : c .before .loop .w ≡ st .args .n = omega arith in
-    passage _ _ (here .none) (from-end (wireTests (st .args .s .now)) (st .args .n) (c .before .loop .w) (omega arith) (here .search))
+    let e : c .before .loop .w ≡ a .n = omega arith in
+    passage _ _ (here .none) (from-end (wireTests bytes) (a .n) (c .before .loop .w) (omega arith) (here .search))
     (record {
-      rate = here .rates ∙ ap (λ (k : ℕ). column wiresMost k (rateOf (st .args .s .now))) e;
-      prop = here .props ∙ ap (λ (k : ℕ). column wiresMost k (propOf (st .args .s .now))) e;
-      room = here .rooms ∙ ap (λ (k : ℕ). column wiresMost k (roomOf (st .args .s .now))) e;
+      rate = here .rates ∙ ap (λ (k : ℕ). column wiresMost k (rateOf bytes)) e;
+      prop = here .props ∙ ap (λ (k : ℕ). column wiresMost k (propOf bytes)) e;
+      room = here .rooms ∙ ap (λ (k : ℕ). column wiresMost k (roomOf bytes)) e;
     })
 
 past : (c : tie.Then1 Inv-loop μ-loop) → 8 * length (s (c .before .before)) < wireAt (w (c .before .before)) + wireBits
@@ -189,7 +197,7 @@ returns-3 c =
     let r = c .before in
     let i = top r in (
       from-stop (wireTests (s i)) (n i) (w i) (omega arith) (i .before .loop .inv .search)
-          (wire-5 (s i) (w i) (inside (r .before .before)) (no-rate (codeOf (s i) (w i)) (sym (coded r) ∙ c .if2 .taken))),
+          (wire-5 (s i) (w i) (whole r) (no-rate (codeOf (s i) (w i)) (sym (coded r) ∙ c .if2 .taken))),
       tt,
     )
 
@@ -203,17 +211,17 @@ wires-of-spec =
     mul-at
     add-at
     holds-requires
-    field-at-requires
+    number-requires
     rate-requires
     mul-rate
     array-write-rate
-    add-field-at
-    field-at-requires-2
+    add-number
+    number-requires-2
     mul-prop
     array-write-prop
-    add-field-at-2
-    add-field-at-3
-    field-at-requires-3
+    add-number-2
+    add-number-3
+    number-requires-3
     mul-room
     array-write-room
     add-w
