@@ -3,3 +3,4 @@ pub mod Hops
 pub mod Holding
 pub mod Wires
 pub mod Left
+pub mod OneReply

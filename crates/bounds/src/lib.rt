@@ -9,11 +9,11 @@ ghost use Rattle.rules.specs.Table.{viewOf};
 ghost use Rattle.rules.specs.Decoded.{tableLeft, figuresLeft};
 ghost use Rattle.rules.specs.Judgement.{loadTests, boundsTests, bounding};
 ghost use Rattle.bounds.specs.Stages.{AsRead, Loads};
+use crate::walking::Worked;
 use rules::Bounded;
 use rules::Reading;
 use rules::Row;
 use rules::Table;
-use crate::walking::Worked;
 
 // 12: the lowest wire whose load is over rate × H.
 fn none_over(

@@ -169,6 +169,10 @@ pub(crate) fn walk(
     }
     Worked {
         answer: Reading::Read,
-        figures: Figures { backlog, delay, end },
+        figures: Figures {
+            backlog,
+            delay,
+            end,
+        },
     }
 }

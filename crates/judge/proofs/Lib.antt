@@ -1,9 +1,3 @@
-pub mod Filing
-pub mod Holding
-pub mod Walk
-pub mod Told
-pub mod Walking
-pub mod Limits
 pub mod Judged
 pub mod OneReply
 pub mod Settled

@@ -1,40 +1,39 @@
 -- `judge::judge` meets its contract: each way out by what the stages before it said.
-use mathlib.Core.Path.{_≡_, sym, ap₂, subst₂, _∙_}
-use mathlib.Core.List.{List, [], _++_}
-use Prim.Native.Nat.{ℕ, _-_}
+use mathlib.Core.Path.{_≡_, refl, sym, ap, _∙_}
+use mathlib.Core.List.{List, [], _∷_}
+use Prim.Native.Nat.{ℕ, _≤_, _<_}
 use native.Mathlib.Omega.{arith}
-use lib.ListN.{length, replicate}
+use native.Mathlib.Decide.{decLe}
+use lib.ListN.{length}
 use borrow.Author.Needs.{needs}
-use Rattle.rules.specs.Replies.{Reply, granted}
+use Rattle.rules.specs.declared.Figures.{Figures}
+use Rattle.rules.specs.declared.Written.{Written}
+use Rattle.rules.specs.declared.Written.the-variants as written
+use Rattle.rules.specs.Numbers.{channelsMost}
+use Rattle.rules.specs.Replies.{granted, refused, readingReply}
 use Rattle.rules.specs.Table.{View, viewOf}
-use Rattle.rules.specs.Reading.{reading}
-use Rattle.rules.specs.Decoded.{tableOf}
-use Rattle.rules.specs.Sheet.{sheetLength, sheetOf}
-use Rattle.rules.specs.Judgement.{boundsTests, lengthOf}
+use Rattle.rules.specs.Bounds.{endToEnd}
+use Rattle.rules.specs.Sheet.{writtenOf, wroteSheet}
+use Rattle.rules.specs.Judgement.{deadlineTests, bounding, lengthOf}
+use Rattle.rules.specs.Decoded.{column, tableLeft, figuresOf, figuresLeft}
 use Rattle.rules.specs.Sound.{Sound}
-use Rattle.rules.proofs.Tables.Laws.{granted-sound}
-use Rattle.rules.specs.Fits.{Fits}
+use Rattle.rules.proofs.Tests.{Through, gate-granted}
+use Rattle.rules.proofs.Tables.Laws.{passes-sound}
+use Rattle.rules.proofs.Tables.Told.{Told, told, entry-at}
 use Rattle.rules.proofs.Sheet.Fits.{fits-view}
 use Rattle.rules.proofs.Sheet.Asking.{FitsSheet}
-use Rattle.rules.proofs.Bounds.Judgement.{judge-refused}
-use Rattle.rules.proofs.Sheet.Written.{Holds, fits-held, leaves-held}
-use Rattle.table.proofs.Answers.{refused-by, passed-by, read-of}
-use Rattle.judge.specs.declared.bounds.Worked.{Worked}
-use Rattle.judge.specs.Arrays.{entries}
-use Rattle.judge.specs.Figures.{WorkedOut}
-use Rattle.judge.proofs.Told.{Told, told}
-use Rattle.judge.proofs.Judged.{read-refused, read-granted, table-granted, bounded, bounds-refused, room-refused, room-granted, judged-refused, judged-granted}
+use Rattle.rules.proofs.Sheet.Written.{written-view, unwritten-view, wrote-view, unwrote-view}
+use Rattle.rules.proofs.Bounds.Judgement.{deadlines-gate, bounding-granted, judge-unbounded, judge-late, judge-short, judge-fits}
+use Rattle.judge.specs.Stages.{Ends}
+use Rattle.judge.proofs.Judged.{judged-refused, judged-granted}
 use Rattle.judge.proofs.judge.Statement.{statement}
 use Rattle.judge.proofs.judge.Tie as tie
 
-abbrev same : Reply → Reply
-same rest = rest
+bounds-requires : tie.Need-bounds-requires
+bounds-requires c κs = search needs
 
-read-requires : tie.Need-read-requires
-read-requires c κs = search needs
-
-enum-known-reading : tie.Need-enum-known-reading
-enum-known-reading c = search needs
+enum-known-bounding : tie.Need-enum-known-bounding
+enum-known-bounding c = search needs
 
 refuse-requires : tie.Need-refuse-requires
 refuse-requires c κs = search needs
@@ -42,45 +41,65 @@ refuse-requires c κs = search needs
 same-length : tie.Need-same-length
 same-length c = search needs
 
-module _ (c : tie.After-read) where
+module _ (c : tie.After-bounds) where
   abbrev s : List ℕ
   s = c .before .before .before .args .table .now
 
   abbrev lent : ℕ
   lent = length (c .before .before .before .args .sheet .now)
 
+  abbrev v : View
+  v = viewOf s
+
 returns : tie.Need-returns
 returns c =
     let known = c .before .before .before .before .before in
-    let r = known .before .before in
-    judged-refused (s r) (lent r) _ _ _ _
-    (judge-refused (s r) (lent r) _ _ (read-refused (s r) _ _ _ (r .read .ensures .0) (known .reading .given .1)))
+    let b = known .before .before in
+    judged-refused (s b) (lent b) _ _ _ _
+    (judge-unbounded (s b) (lent b) _ _ (sym (b .bounds .ensures .0) ∙ ap readingReply (known .bounding .given .1)))
     (c .before .before .refuse .ensures .0) (c .before .before .refuse .ensures .1)
 
 enum-told : tie.Need-enum-told
 enum-told c = search needs
 
-module _ (c : tie.After-t) where
-  abbrev first : tie.After-read
-  first = c .before .before .before
+module _ (c : tie.After-enum-told) where
+  abbrev b : tie.After-bounds
+  b = c .before .before
 
-  abbrev v : View
-  v = viewOf (s first)
+  whole : bounding (s b) ≡ granted []
+  whole = sym (b .bounds .ensures .0) ∙ ap readingReply (c .enum-told .given .1)
 
-  whole : reading (s first) ≡ granted []
-  whole = read-granted (s first) _ (first .read .ensures .0) (c .before .enum-told .given .1)
+  sound : Sound (v b)
+  sound = passes-sound (s b) (bounding-granted (s b) whole .0 .fields)
 
-  as-table : first .read .result .table ≡ tableOf v
-  as-table = table-granted (s first) _ (first .read .ensures .1) whole
+  as-read : Told (v b) (b .bounds .result .table)
+  unfolding tableLeft
+  as-read = told (v b) _ (b .bounds .ensures .1 .0 ∙ rw whole)
 
-  sound : Sound v
-  sound = granted-sound (s first) whole
+  figures-told : b .bounds .result .figures ≡ figuresOf (v b)
+  unfolding figuresLeft
+  figures-told = b .bounds .ensures .1 .1 ∙ rw whole
 
-bounds-requires : tie.Need-bounds-requires
-bounds-requires c κs = (whole c, as-table c)
+  ends-told : b .bounds .result .figures .end ≡ column channelsMost (v b .channels) (endToEnd (v b))
+  unfolding figuresOf
+  ends-told = ap (λ (f : Figures). f .end) figures-told
 
-enum-known-bounded : tie.Need-enum-known-bounded
-enum-known-bounded c = search needs
+  ends : Ends (s b) (b .bounds .result .figures .end) (b .bounds .result .table .deadline) (b .bounds .result .table .channels)
+  ends =
+      let m = as-read .channels in
+      let most = sound .channels-most in
+      record {
+        number = m;
+        most = omega (arith, m, most);
+        end-told = λ k l. entry-at channelsMost _ _ _ ends-told most k (omega (arith, m));
+        deadline-told = λ k l. entry-at channelsMost _ _ _ (as-read .deadline) most k (omega (arith, m));
+      }
+
+none-late-requires : tie.Need-none-late-requires
+none-late-requires c κs = ends (c .before .before .before .before .before .before)
+
+enum-known-timely : tie.Need-enum-known-timely
+enum-known-timely c = search needs
 
 refuse-requires-2 : tie.Need-refuse-requires-2
 refuse-requires-2 c κs = search needs
@@ -88,115 +107,123 @@ refuse-requires-2 c κs = search needs
 same-length-2 : tie.Need-same-length-2
 same-length-2 c = search needs
 
+module _ (c : tie.After-none-late) where
+  abbrev told-bounds : tie.After-enum-told
+  told-bounds = c .before .before .before .before .before .before .before
+
 returns-2 : tie.Need-returns-2
 returns-2 c =
     let known = c .before .before .before .before .before in
-    let b = known .before .before in
-    let t = b .before in
-    let r = first t in
-    judged-refused (s r) (lent r) _ _ _ _
-    (bounds-refused (s r) (lent r) _ _ (whole t) (refused-by (boundsTests (v t)) same _ (b .bounds .ensures .0) _ _ (known .bounded .given .1)))
+    let n = known .before .before in
+    let e = told-bounds n in
+    judged-refused (s (b e)) (lent (b e)) _ _ _ _
+    (judge-late (s (b e)) (lent (b e)) (whole e) _ _ (λ rest. n .none-late .ensures rest ∙ rw (known .timely .given .1)))
     (c .before .before .refuse2 .ensures .0) (c .before .before .refuse2 .ensures .1)
 
 enum-told-2 : tie.Need-enum-told-2
 enum-told-2 c = search needs
 
-module _ (c : tie.After-enum-told2) where
-  abbrev bounds : tie.After-bounds
-  bounds = c .before .before
+write-requires : tie.Need-write-requires
+write-requires c κs = search needs
 
-  abbrev at : tie.After-t
-  at = bounds .before
+enum-known-written : tie.Need-enum-known-written
+enum-known-written c = search needs
 
-  through : (rest : Reply) → boundsTests (v at) rest ≡ rest
-  through = passed-by (boundsTests (v at)) same _ (bounds .bounds .ensures .0) (c .enum-told2 .given .1)
-
-  worked : WorkedOut (v at) (bounds .bounds .result)
-  worked = read-of _ _ (c .enum-told2 .given .1) (bounds .bounds .ensures .1)
-
-  counts : Told (v at) (first at .read .result .table)
-  counts = told (v at) _ (as-table at)
-
-  fits : FitsSheet (v at)
-  fits = fits-view (s (first at)) (sound at) (bounded (s (first at)) through .backlogs) (bounded (s (first at)) through .ends)
-
-sheet-length-requires : tie.Need-sheet-length-requires
-sheet-length-requires c κs =
-    (omega (arith, counts c .wires, sound (at c) .wires-most), omega (arith, counts c .channels, sound (at c) .channels-most))
-
-refuse-requires-3 : tie.Need-refuse-requires-3
-refuse-requires-3 c κs = search needs
+enum-told-3 : tie.Need-enum-told-3
+enum-told-3 c = search needs
 
 same-length-3 : tie.Need-same-length-3
 same-length-3 c = search needs
 
-module _ (c : tie.After-sheet-length) where
-  abbrev e : tie.After-enum-told2
-  e = c .before
+no-length : (n : ℕ) → written.Length n ≡ written.Nothing → ⊥
+no-length n e = let z : _≡_ {A = ℕ} 0 1 = cc in omega arith
 
-  abbrev r : tie.After-read
-  r = first (at e)
+module _ (c : tie.After-write) where
+  abbrev passed : tie.After-enum-told2
+  passed = c .before .before
 
-  long : c .sheet-length .result ≡ lengthOf (v (at e))
-  long = c .sheet-length .ensures ∙ ap₂ sheetLength (counts e .wires) (counts e .channels)
+  abbrev late : tie.After-none-late
+  late = passed .before .before
 
-  abbrev figures : Worked
-  figures = bounds e .bounds .result
+  abbrev e : tie.After-enum-told
+  e = told-bounds late
 
-  holds : Holds (v (at e)) (figures .backlog) (figures .delay) (figures .end)
-  holds = record { backlogs = worked e .backlogs; delays = worked e .delays; ends = worked e .ends }
+  abbrev t : View
+  t = v (b e)
+
+  in-time : Through (deadlineTests t)
+  in-time rest = late .none-late .ensures rest ∙ rw (passed .enum-told2 .given .1)
+
+  fits : FitsSheet t
+  fits =
+      fits-view (s (b e)) (sound e) (bounding-granted (s (b e)) (whole e) .1 .backlogs)
+      (gate-granted (deadlines-gate t) (granted []) [] (in-time (granted [])) .0)
+
+  -- what was written is the view's
+  of-view : {A : Type 0} (f : ℕ → ℕ → Figures → A)
+      → f (b e .bounds .result .table .wires) (b e .bounds .result .table .channels) (b e .bounds .result .figures)
+      ≡ f (t .wires) (t .channels) (figuresOf t)
+  of-view f = λ i. f (as-read e .wires i) (as-read e .channels i) (figures-told e i)
+
+  replied : c .write .result ≡ writtenOf (t .wires) (t .channels) (figuresOf t) (lent (b e))
+  replied = c .write .ensures .0 ∙ of-view (λ n m f. writtenOf n m f (lent (b e)))
+
+  left : c .write .last .0 ≡ wroteSheet (t .wires) (t .channels) (figuresOf t) (lent (b e))
+  left = c .write .ensures .1 ∙ of-view (λ n m f. wroteSheet n m f (lent (b e)))
+
+  room : (n : ℕ) → c .write .result ≡ written.Length n → (lengthOf t ≤ lent (b e)) × (n ≡ lengthOf t)
+  room n is =
+      elim (decLe (lengthOf t) (lent (b e))) [
+        | yes l ↦ (l, cc (is, replied, written-view t fits (lent (b e)) l))
+        | no o ↦ absurd (no-length n (sym is ∙ replied ∙ unwritten-view t fits (lent (b e)) (omega arith)))
+      ]
+
+  no-room : c .write .result ≡ written.Nothing → lent (b e) < lengthOf t
+  no-room is =
+      elim (decLe (lengthOf t) (lent (b e))) [
+        | yes l ↦ absurd (no-length (lengthOf t) (sym (sym is ∙ replied ∙ written-view t fits (lent (b e)) l)))
+        | no o ↦ omega arith
+      ]
 
 returns-3 : tie.Need-returns-3
 returns-3 c =
-    let l = c .before .before .before .before .before in
-    judged-refused (s (r l)) (lent (r l)) _ _ _ _
-    (room-refused (s (r l)) (lent (r l)) (l .sheet-length .result) (long l) (whole (at (e l))) (through (e l)) (omega arith))
-    (c .before .before .refuse3 .ensures .0) (c .before .before .refuse3 .ensures .1)
-
-write-sheet-requires : tie.Need-write-sheet-requires
-write-sheet-requires c κs =
-    let l = c .before .before .before .before .before .before .before .before in
-    let f = figures l in (
-      subst₂ (λ (n m : ℕ). Fits n m (entries (f .backlog)) (entries (f .delay)) (entries (f .end))) (sym (counts (e l) .wires)) (sym (counts (e l) .channels))
-          (fits-held (v (at (e l))) (fits (e l)) (f .backlog) (f .delay) (f .end) (holds l)),
-      omega (arith, l .sheet-length .ensures),
-    )
+    let w = c .before .before .before .before .before in
+    let r = room w _ (c .before .written .given .1) in
+    judged-granted (s (b (e w))) (lent (b (e w))) _ _ (r .1)
+    (judge-fits (s (b (e w))) (lent (b (e w))) (whole (e w)) (in-time w) (r .0))
+    (left w ∙ wrote-view (t w) (fits w) (lent (b (e w))) _ (r .0))
 
 same-length-4 : tie.Need-same-length-4
 same-length-4 c = search needs
 
 returns-4 : tie.Need-returns-4
 returns-4 c =
-    let w = c .before .before in
-    let l = w .before .before .before .before .before .before .before .before .before in
-    let f = figures l in
-    judged-granted (s (r l)) (lent (r l)) (l .sheet-length .result) _ (long l)
-    (room-granted (s (r l)) (lent (r l)) (l .sheet-length .result) (long l) (whole (at (e l))) (through (e l)) (omega arith))
-    (w .write-sheet .ensures
-    ∙ ap₂ (λ (n m : ℕ). sheetOf n m (entries (f .backlog)) (entries (f .delay)) (entries (f .end)) ++ replicate (lent (r l) - sheetLength n m) 255)
-    (counts (e l) .wires) (counts (e l) .channels)
-    ∙ leaves-held (v (at (e l))) (fits (e l)) (f .backlog) (f .delay) (f .end) (holds l) _ (lent (r l)))
+    let w = c .before .before .before .before in
+    let l = no-room w (c .enum-told3 .given .1) in
+    judged-refused (s (b (e w))) (lent (b (e w))) _ _ 15 0
+    (judge-short (s (b (e w))) (lent (b (e w))) (whole (e w)) (in-time w) l) refl
+    (left w ∙ unwrote-view (t w) (fits w) (lent (b (e w))) l)
 
 pub judge-spec : {M : Type 1} → statement M
 judge-spec =
     tie.close
     (tie.spec
-    read-requires
-    enum-known-reading
+    bounds-requires
+    enum-known-bounding
     refuse-requires
     same-length
     returns
     enum-told
-    bounds-requires
-    enum-known-bounded
+    none-late-requires
+    enum-known-timely
     refuse-requires-2
     same-length-2
     returns-2
     enum-told-2
-    sheet-length-requires
-    refuse-requires-3
+    write-requires
+    enum-known-written
+    enum-told-3
     same-length-3
     returns-3
-    write-sheet-requires
     same-length-4
     returns-4)

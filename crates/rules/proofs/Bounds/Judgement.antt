@@ -9,7 +9,7 @@ use Rattle.rules.specs.Table.{View, viewOf}
 use Rattle.rules.specs.Reading.{readingTests, reading}
 use Rattle.rules.specs.Bounds.{load, backlog, endToEnd}
 use Rattle.rules.specs.Judgement.{loadTest, roomTest, deadlineTest, loadTests, boundsTests, deadlineTests, bounding, lengthOf, judge}
-use Rattle.rules.proofs.Tests.{Through, Stops, Gate, through, stops, gate-granted, gate-through, gate-iff, gate-then, le-gate, all-gate}
+use Rattle.rules.proofs.Tests.{Through, Stops, Gate, through, stops, gate-granted, gate-refused, gate-through, gate-iff, gate-then, le-gate, all-gate}
 use Rattle.rules.specs.Sound.{Sound}
 use Rattle.rules.proofs.Tables.Search.{le-stops}
 use Rattle.rules.proofs.Tables.Laws.{Passes, passes-sound, reading-gate, reading-refused, reading-passes, passes-reading}
@@ -90,6 +90,33 @@ module _ (s : List ℕ) where
   pub bounding-through : reading s ≡ granted [] → Through (boundsTests (viewOf s)) → bounding s ≡ granted []
   unfolding bounding
   bounding-through r h = passes-reading s (reading-passes s r) _ ∙ h _
+
+  bounding-gate : Gate (Passes s × Carried (viewOf s)) (λ rest. readingTests s (boundsTests (viewOf s) rest))
+  bounding-gate = gate-then (reading-gate s) (carried-gate (viewOf s))
+
+  pub bounding-granted : bounding s ≡ granted [] → Passes s × Carried (viewOf s)
+  unfolding bounding
+  bounding-granted e = gate-granted bounding-gate (granted []) [] e .0
+
+  -- and what the judgement makes of it
+  module _ (lent : ℕ) where
+    pub judge-unbounded : (n p : ℕ) → bounding s ≡ refused n p → judge s lent ≡ refused n p
+    unfolding bounding judge
+    judge-unbounded n p e = gate-refused bounding-gate [] n p e _
+
+    module _ (e : bounding s ≡ granted []) where
+      judge-after : judge s lent ≡ deadlineTests (viewOf s) (test (leb (lengthOf (viewOf s)) lent) 15 0 (granted (lengthOf (viewOf s) ∷ [])))
+      unfolding judge
+      judge-after = gate-through bounding-gate (bounding-granted e) _
+
+      pub judge-late : (n p : ℕ) → Stops (deadlineTests (viewOf s)) n p → judge s lent ≡ refused n p
+      judge-late n p h = judge-after ∙ h _
+
+      pub judge-short : Through (deadlineTests (viewOf s)) → lent < lengthOf (viewOf s) → judge s lent ≡ refused 15 0
+      judge-short h l = judge-after ∙ h _ ∙ le-stops 15 0 (lengthOf (viewOf s)) lent l _
+
+      pub judge-fits : Through (deadlineTests (viewOf s)) → lengthOf (viewOf s) ≤ lent → judge s lent ≡ granted (lengthOf (viewOf s) ∷ [])
+      judge-fits h l = judge-after ∙ h _ ∙ gate-through (le-gate 15 0 (lengthOf (viewOf s)) lent) l _
 
 -- all tests of the judgement
 abbrev pub judgeTests : List ℕ → ℕ → Reply → Reply

@@ -83,8 +83,7 @@ file-channel-requires : tie.Need-file-channel-requires Inv-loop μ-loop
 file-channel-requires c κs =
     let i = c .before .before .before .before .before in
     let top = i .before in
-    let hops = c .before .before .before .before .wide .ensures ∙ told-hops i in
-    (
+    let hops = c .before .before .before .before .wide .ensures ∙ told-hops i in (
       record {
         sound = sound top;
         less = less i;
