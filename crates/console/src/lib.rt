@@ -1,18 +1,12 @@
 // Standard input, whole or line by line, through a buffer that the caller lends; and words and numbers on standard output.
 // No contract can say which bytes are read or written.
-mod lines;
-
 use libc::STDERR_FILENO;
 use libc::STDIN_FILENO;
 use libc::STDOUT_FILENO;
-pub use lines::Found;
-pub use lines::Line;
-pub use lines::next_line;
-pub use lines::no_line_yet;
-ghost use Prim.Native.Nat.{ℕ, _<_, _≤_};
+ghost use Prim.Native.Nat.{ℕ, _+_, _<_, _≤_};
 ghost use mathlib.Core.Path.{_≡_};
 ghost use lib.ListN.{getD, length};
-ghost use Rattle.console.specs.Input.{Within};
+ghost use Rattle.console.specs.Reading.{LineIn, Within};
 
 pub enum Input {
     // So many bytes, at the start of the buffer.
@@ -53,6 +47,135 @@ pub fn find(bytes: &[u8], stop: u8) -> usize
         i += 1;
     }
     i
+}
+
+pub enum Found {
+    // A line, without its newline; the last one need not have one.
+    Line,
+    // A line that does not fit the buffer, and is passed over.
+    TooLong,
+    // Nothing yet.
+    Nothing,
+    End,
+    Failed,
+}
+
+// A line stands at start..end of the buffer, and what was read and not yet handed out at from..to.
+pub struct Line {
+    pub found: Found,
+    pub start: usize,
+    pub end: usize,
+    pub from: usize,
+    pub to: usize,
+    // What was read goes on with a line that is too long.
+    pub cut: bool,
+    // Nothing comes after it.
+    pub ended: bool,
+}
+
+// Before the first line.
+pub fn no_line() -> Line {
+    read_up_to(Found::Nothing, 0, false, false)
+}
+
+// The next line after `last`, with at most one read, so that there may be nothing yet. A place outside the buffer counts as
+// its end.
+pub fn next_line(last: Line, buffer: &mut [u8]) -> Line
+    ensures { λ r. ⌜ LineIn r (now (buffer .exit)) ⌝ }
+{
+    let to = least(last.to, buffer.len());
+    let from = least(last.from, to);
+    let n = find(&buffer[from..to], b'\n');
+    let end = from + n;
+    if end < to {
+        let found = if last.cut {
+            Found::Nothing
+        } else {
+            Found::Line
+        };
+        return Line {
+            found,
+            start: from,
+            end,
+            from: end + 1,
+            to,
+            cut: false,
+            ended: last.ended,
+        };
+    }
+    if last.ended {
+        return Line {
+            found: Found::Line,
+            start: from,
+            end,
+            from: 0,
+            to: 0,
+            cut: false,
+            ended: false,
+        };
+    }
+    if last.cut {
+        return after_read(refill(buffer, to, to), 0, true);
+    }
+    if n == buffer.len() {
+        return read_up_to(Found::TooLong, 0, true, false);
+    }
+    after_read(refill(buffer, from, to), n, false)
+}
+
+fn least(a: usize, b: usize) -> usize
+    ensures { λ r. ⌜ r ≤ b ⌝ }
+{
+    if a < b { a } else { b }
+}
+
+// Moves the bytes at from..to to the start of the buffer, reads behind them, and answers up to where the buffer is filled.
+fn refill(buffer: &mut [u8], from: usize, to: usize) -> Input
+    requires { ⌜ (from ≤ to) × (to ≤ length (now buffer)) ⌝ }
+{
+    let kept = to - from;
+    move_to_front(buffer, from, kept);
+    let got = libc::read(STDIN_FILENO, &mut buffer[kept..]);
+    if got < 0 {
+        return Input::Failed;
+    }
+    let more = io::count(got, &buffer[kept..]);
+    Input::Bytes(kept + more)
+}
+
+fn after_read(read: Input, kept: usize, cut: bool) -> Line
+    ensures { λ r. ⌜ (r .start ≡ 0) × (r .end ≡ 0) ⌝ }
+{
+    let Input::Bytes(to) = read else {
+        return read_up_to(Found::Failed, 0, false, false);
+    };
+    if to == 0 {
+        return read_up_to(Found::End, 0, false, false);
+    }
+    read_up_to(Found::Nothing, to, cut, to == kept)
+}
+
+fn read_up_to(found: Found, to: usize, cut: bool, ended: bool) -> Line
+    ensures { λ r. ⌜ (r .start ≡ 0) × (r .end ≡ 0) ⌝ }
+{
+    Line {
+        found,
+        start: 0,
+        end: 0,
+        from: 0,
+        to,
+        cut,
+        ended,
+    }
+}
+
+fn move_to_front(bytes: &mut [u8], from: usize, n: usize)
+    requires { ⌜ from + n ≤ length (now bytes) ⌝ }
+    ensures { λ _. ⌜ ((k : ℕ) → k < n → getD (now (bytes .exit)) k 0 ≡ getD (now (bytes .entry)) (from + k) 0) ⌝ }
+{
+    for i in 0..n {
+        bytes[i] = bytes[from + i];
+    }
 }
 
 pub fn print(text: &[u8]) {

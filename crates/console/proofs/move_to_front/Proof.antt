@@ -1,28 +1,28 @@
--- `lines::move_to_front` moves each byte once.
+-- `move_to_front` moves each byte once.
 use borrow.Author.Needs.{needs}
 use Prim.Native.Nat.{_≤_, _-_}
 use native.Mathlib.Omega.{arith}
 use Rattle.console.proofs.Moving.{Moved, moved-none, moved-one}
-use Rattle.console.proofs.lines.move_to_front.Statement.{statement}
-use Rattle.console.proofs.lines.move_to_front.Tie as tie
+use Rattle.console.proofs.move_to_front.Statement.{statement}
+use Rattle.console.proofs.move_to_front.Tie as tie
 
 abbrev Inv-loop : tie.InvT-loop
-Inv-loop buffer₀ start n i₀ buffer i = Moved start buffer₀ buffer i × (i ≤ n)
+Inv-loop bytes₀ from n i₀ bytes i = Moved from bytes₀ bytes i × (i ≤ n)
 
 abbrev μ-loop : tie.MeasureT-loop
-μ-loop buffer₀ start n i₀ buffer i = n - i
+μ-loop bytes₀ from n i₀ bytes i = n - i
 
 loop-holds : tie.Need-loop-holds Inv-loop μ-loop
 loop-holds c = (moved-none _ _, omega arith)
 
-add-buffer : tie.Need-add-buffer Inv-loop μ-loop
-add-buffer c = search needs
+add-bytes : tie.Need-add-bytes Inv-loop μ-loop
+add-bytes c = search needs
 
-slice-read-buffer : tie.Need-slice-read-buffer Inv-loop μ-loop
-slice-read-buffer c = search needs
+slice-read-bytes : tie.Need-slice-read-bytes Inv-loop μ-loop
+slice-read-bytes c = search needs
 
-slice-write-buffer : tie.Need-slice-write-buffer Inv-loop μ-loop
-slice-write-buffer c = search needs
+slice-write-bytes : tie.Need-slice-write-bytes Inv-loop μ-loop
+slice-write-bytes c = search needs
 
 add-i : tie.Need-add-i Inv-loop μ-loop
 add-i c = search needs
@@ -46,9 +46,9 @@ move-to-front-spec =
     Inv-loop
     μ-loop
     loop-holds
-    add-buffer
-    slice-read-buffer
-    slice-write-buffer
+    add-bytes
+    slice-read-bytes
+    slice-write-bytes
     add-i
     loop-less
     loop-again
