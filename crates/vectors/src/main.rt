@@ -1,151 +1,141 @@
 // Runs vectors over the proved crates. Of each line of standard input, a case, it writes the reply as it stands after the
 // line's `->`, which it never reads.
-use libc::STDIN_FILENO;
-use libc::STDOUT_FILENO;
+use console::Found;
+use console::Line;
+use console::print;
+use console::print_number;
 use rules::AskedChannel;
 use rules::AskedWire;
 use rules::Judging;
 use rules::Pricing;
+ghost use Prim.Native.Nat.{_≤_};
+ghost use lib.ListN.{length};
 
 mod text;
 
-const INPUT_MOST: usize = 400_000;
+// A line of so many bytes or more is too long.
+const LINE_MOST: usize = 32_768;
 
-// The longest byte string of a case; the longest table has 2,165.
-const BYTES_MOST: usize = 4_096;
+// No line holds a longer byte string.
+const BYTES_MOST: usize = 16_384;
 
-fn put(s: &[u8]) {
-    io::write_all(STDOUT_FILENO, s);
+fn print_refusal(number: u64, place: u64) {
+    print(b"R");
+    print_number(number);
+    print_number(place);
 }
 
-// A blank and a number.
-fn put_number(n: u64) {
-    put(b" ");
-    io::print_decimal(STDOUT_FILENO, n);
-}
-
-fn put_refusal(number: u64, place: u64) {
-    put(b"R");
-    put_number(number);
-    put_number(place);
-}
-
-// framing payload
-fn price(words: &[u8]) {
-    match framing::price(text::number(words), text::number(text::rest(words))) {
+fn price(framing: u64, payload: u64) {
+    match framing::price(framing, payload) {
         Pricing::Price(bytes) => {
-            put(b"V");
-            put_number(bytes);
+            print(b"V");
+            print_number(bytes);
         }
-        Pricing::Refused(number, place) => put_refusal(number, place),
-    }
-}
-
-fn wide(b: u8) -> u64 {
-    b as u64
-}
-
-// A byte string in hexadecimal, or "-" where it is empty.
-fn put_bytes(s: &[u8]) {
-    if s.len() == 0 {
-        put(b"-");
-    }
-    let mut i = 0;
-    while i < s.len() {
-        io::print_hex(STDOUT_FILENO, wide(s[i]), 2);
-        i += 1;
+        Pricing::Refused(number, place) => print_refusal(number, place),
     }
 }
 
 // The reply, and the lent buffer afterwards.
-fn put_judging(table: &[u8], lent: &mut [u8]) {
+fn judged(table: &[u8], lent: &mut [u8]) {
     match judge::judge(table, lent) {
         Judging::Accepted(length) => {
-            put(b"A");
-            put_number(length);
+            print(b"A");
+            print_number(length);
         }
-        Judging::Refused(number, place) => put_refusal(number, place),
+        Judging::Refused(number, place) => print_refusal(number, place),
     }
-    put(b" ");
-    put_bytes(lent);
+    print(b" ");
+    console::print_hex(lent);
 }
 
-// table lent. The buffer is lent full of 85, which is neither a refusal's filling nor zeros.
-fn judged(words: &[u8]) {
-    let mut space = [0u8; BYTES_MOST];
-    let n = text::bytes(words, &mut space);
-    let mut buffer = [85u8; BYTES_MOST];
-    let lent = text::number(text::rest(words));
+// The buffer is lent full of 85, which is neither a refusal's filling nor zeros.
+fn judged_into(table: &[u8], lent: u64) {
     if (BYTES_MOST as u64) < lent {
-        put(b"lent too long");
+        print(b"lent too long");
         return;
     }
+    let mut buffer = [85u8; BYTES_MOST];
     let end = io::count(lent as isize, &buffer);
-    put_judging(&space[..n], &mut buffer[..end]);
+    judged(table, &mut buffer[..end]);
 }
 
-// sheet index
-fn wire(words: &[u8]) {
-    let mut space = [0u8; BYTES_MOST];
-    let n = text::bytes(words, &mut space);
-    match sheet::ask_wire(&space[..n], text::number(text::rest(words))) {
+fn wire(sheet: &[u8], index: u64) {
+    match sheet::ask_wire(sheet, index) {
         AskedWire::Figures(backlog, delay) => {
-            put(b"V");
-            put_number(backlog);
-            put_number(delay);
+            print(b"V");
+            print_number(backlog);
+            print_number(delay);
         }
-        AskedWire::Refused(number, place) => put_refusal(number, place),
+        AskedWire::Refused(number, place) => print_refusal(number, place),
     }
 }
 
-// sheet index
-fn channel(words: &[u8]) {
+fn channel(sheet: &[u8], index: u64) {
+    match sheet::ask_channel(sheet, index) {
+        AskedChannel::Delay(delay) => {
+            print(b"V");
+            print_number(delay);
+        }
+        AskedChannel::Refused(number, place) => print_refusal(number, place),
+    }
+}
+
+// KIND 1 BYTES NUMBER
+fn of_bytes(kind: u8, words: &[u8]) {
     let mut space = [0u8; BYTES_MOST];
     let n = text::bytes(words, &mut space);
-    match sheet::ask_channel(&space[..n], text::number(text::rest(words))) {
-        AskedChannel::Delay(delay) => {
-            put(b"V");
-            put_number(delay);
-        }
-        AskedChannel::Refused(number, place) => put_refusal(number, place),
+    let number = text::number(text::rest(words));
+    match kind {
+        b'J' => judged_into(&space[..n], number),
+        b'W' => wire(&space[..n], number),
+        b'C' => channel(&space[..n], number),
+        _ => print(b"no such case"),
     }
 }
 
 fn case(line: &[u8]) {
-    if 2 * BYTES_MOST < line.len() {
-        put(b"line too long\n");
-        return;
-    }
+    let kind = text::kind(line);
     let words = text::rest(line);
-    match text::kind(line) {
-        b'J' => judged(text::rest(words)),
-        b'W' => wire(text::rest(words)),
-        b'C' => channel(text::rest(words)),
-        b'P' => price(words),
-        _ => put(b"no such case"),
+    if kind == b'P' {
+        price(text::number(words), text::number(text::rest(words)));
+    } else {
+        of_bytes(kind, text::rest(words));
     }
-    put(b"\n");
+    print(b"\n");
 }
 
-fn cases(s: &[u8]) {
-    let mut at = 0;
-    while at < s.len() {
-        let n = text::find(&s[at..], b'\n');
-        let end = at + n;
-        case(&s[at..end]);
-        if end == s.len() {
+// Whether there is more to come.
+fn answer(line: Line, buffer: &[u8]) -> bool
+    requires { ⌜ (line .start ≤ line .end) × (line .end ≤ length (now buffer)) ⌝ }
+{
+    let start = line.start;
+    let end = line.end;
+    let found = line.found;
+    match found {
+        Found::Line => case(&buffer[start..end]),
+        Found::TooLong => print(b"line too long\n"),
+        Found::Nothing => {}
+        Found::End => return false,
+        Found::Failed => {
+            console::complain(b"vectors: standard input cannot be read\n");
+            return false;
+        }
+    }
+    true
+}
+
+// Nothing says that the input ends: the turns do, after longer than any machine runs.
+fn cases(buffer: &mut [u8]) {
+    let mut line = console::no_line();
+    for _ in 0..u64::MAX {
+        line = console::next_line(line, buffer);
+        if !answer(line, buffer) {
             return;
         }
-        at = end + 1;
     }
 }
 
 fn main() {
-    let mut input = [0u8; INPUT_MOST];
-    let n = io::read_full(STDIN_FILENO, &mut input);
-    if n == input.len() {
-        put(b"input too long\n");
-        return;
-    }
-    cases(&input[..n]);
+    let mut buffer = [0u8; LINE_MOST];
+    cases(&mut buffer);
 }

@@ -1,25 +1,10 @@
 // A line's words, and the numbers and byte strings that they spell.
 ghost use Prim.Native.Nat.{_≤_};
-ghost use lib.ListN.{length};
 ghost use Rattle.io.specs.Counts.{Counts};
-
-// Where the first byte `stop` stands, or the end.
-pub(crate) fn find(s: &[u8], stop: u8) -> usize
-    ensures { λ r. ⌜ r ≤ length (now (s .entry)) ⌝ }
-{
-    let mut i = 0;
-    while i < s.len() {
-        if s[i] == stop {
-            return i;
-        }
-        i += 1;
-    }
-    i
-}
 
 // What follows the first word and its blank.
 pub(crate) fn rest(s: &[u8]) -> &[u8] {
-    let end = find(s, b' ');
+    let end = console::find(s, b' ');
     if end < s.len() {
         let from = end + 1;
         &s[from..]

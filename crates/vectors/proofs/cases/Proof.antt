@@ -1,57 +1,46 @@
 -- `cases` goes through the lines and ends.
 use borrow.Author.Needs.{needs}
-use Prim.Native.Nat.{_≤_, _-_}
+use Prim.Native.Nat.{_-_}
+use mathlib.Core.Path.{_≡_}
 use lib.ListN.{length}
 use Rattle.vectors.proofs.cases.Statement.{statement}
 use Rattle.vectors.proofs.cases.Tie as tie
 
 abbrev Inv-loop : tie.InvT-loop
-Inv-loop s at₀ at = at ≤ length s
+Inv-loop buffer₀ line₀ counter₀ buffer line counter = length buffer ≡ length buffer₀
 
 abbrev μ-loop : tie.MeasureT-loop
-μ-loop s at₀ at = length s - at
+μ-loop buffer₀ line₀ counter₀ buffer line counter = 18446744073709551615 - counter
+
+no-line-requires : tie.Need-no-line-requires Inv-loop μ-loop
+no-line-requires c κs = search needs
 
 loop-holds : tie.Need-loop-holds Inv-loop μ-loop
 loop-holds c = search needs
 
-sub-find : tie.Need-sub-find Inv-loop μ-loop
-sub-find c = search needs
+next-line-requires : tie.Need-next-line-requires Inv-loop μ-loop
+next-line-requires c κs = search needs
 
-part-find-start : tie.Need-part-find-start Inv-loop μ-loop
-part-find-start c = search needs
+answer-requires : tie.Need-answer-requires Inv-loop μ-loop
+answer-requires c κs = search needs
 
-part-find-end : tie.Need-part-find-end Inv-loop μ-loop
-part-find-end c = search needs
-
-find-requires : tie.Need-find-requires Inv-loop μ-loop
-find-requires c κs = search needs
-
-add-end : tie.Need-add-end Inv-loop μ-loop
-add-end c = search needs
-
-sub-case : tie.Need-sub-case Inv-loop μ-loop
-sub-case c = search needs
-
-part-case-start : tie.Need-part-case-start Inv-loop μ-loop
-part-case-start c = search needs
-
-part-case-end : tie.Need-part-case-end Inv-loop μ-loop
-part-case-end c = search needs
-
-case-requires : tie.Need-case-requires Inv-loop μ-loop
-case-requires c κs = search needs
+same-length : tie.Need-same-length Inv-loop μ-loop
+same-length c = search needs
 
 returns : tie.Need-returns Inv-loop μ-loop
 returns c = search needs
 
-add-at : tie.Need-add-at Inv-loop μ-loop
-add-at c = search needs
+add-counter : tie.Need-add-counter Inv-loop μ-loop
+add-counter c = search needs
 
 loop-less : tie.Need-loop-less Inv-loop μ-loop
 loop-less c = search needs
 
 loop-again : tie.Need-loop-again Inv-loop μ-loop
 loop-again c = search needs
+
+same-length-2 : tie.Need-same-length-2 Inv-loop μ-loop
+same-length-2 c = search needs
 
 returns-2 : tie.Need-returns-2 Inv-loop μ-loop
 returns-2 c = search needs
@@ -62,18 +51,14 @@ cases-spec =
     (tie.spec
     Inv-loop
     μ-loop
+    no-line-requires
     loop-holds
-    sub-find
-    part-find-start
-    part-find-end
-    find-requires
-    add-end
-    sub-case
-    part-case-start
-    part-case-end
-    case-requires
+    next-line-requires
+    answer-requires
+    same-length
     returns
-    add-at
+    add-counter
     loop-less
     loop-again
+    same-length-2
     returns-2)
