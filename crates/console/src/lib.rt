@@ -88,39 +88,47 @@ pub fn next_line(last: Line, buffer: &mut [u8]) -> Line
     let n = find(&buffer[from..to], b'\n');
     let end = from + n;
     if end < to {
-        let found = if last.cut {
-            Found::Nothing
-        } else {
-            Found::Line
-        };
-        return Line {
-            found,
-            start: from,
-            end,
-            from: end + 1,
-            to,
-            cut: false,
-            ended: last.ended,
-        };
+        return handed(last.cut, from, end, end + 1, to, last.ended);
     }
     if last.ended {
-        return Line {
-            found: Found::Line,
-            start: from,
-            end,
-            from: 0,
-            to: 0,
-            cut: false,
-            ended: false,
-        };
+        return handed(false, from, end, 0, 0, false);
     }
     if last.cut {
-        return after_read(refill(buffer, to, to), 0, true);
+        return read_on(buffer, to, to, true);
     }
     if n == buffer.len() {
-        return read_up_to(Found::TooLong, 0, true, false);
+        return too_long();
     }
-    after_read(refill(buffer, from, to), n, false)
+    read_on(buffer, from, to, false)
+}
+
+// A line, or nothing where it is the end of one that is too long.
+fn handed(cut: bool, start: usize, end: usize, from: usize, to: usize, ended: bool) -> Line
+    ensures { λ r. ⌜ (r .start ≡ start) × (r .end ≡ end) ⌝ }
+{
+    let found = if cut { Found::Nothing } else { Found::Line };
+    Line {
+        found,
+        start,
+        end,
+        from,
+        to,
+        cut: false,
+        ended,
+    }
+}
+
+fn too_long() -> Line
+    ensures { λ r. ⌜ (r .start ≡ 0) × (r .end ≡ 0) ⌝ }
+{
+    read_up_to(Found::TooLong, 0, true, false)
+}
+
+fn read_on(buffer: &mut [u8], from: usize, to: usize, cut: bool) -> Line
+    requires { ⌜ (from ≤ to) × (to ≤ length (now buffer)) ⌝ }
+    ensures { λ r. ⌜ (r .start ≡ 0) × (r .end ≡ 0) ⌝ }
+{
+    after_read(refill(buffer, from, to), to - from, cut)
 }
 
 fn least(a: usize, b: usize) -> usize

@@ -1,15 +1,12 @@
 // Runs vectors over the proved crates. Of each line of standard input, a case, it writes the reply as it stands after the
 // line's `->`, which it never reads.
 use console::Found;
-use console::Line;
 use console::print;
 use console::print_number;
 use rules::AskedChannel;
 use rules::AskedWire;
 use rules::Judging;
 use rules::Pricing;
-ghost use Prim.Native.Nat.{_≤_};
-ghost use lib.ListN.{length};
 
 mod text;
 
@@ -35,9 +32,8 @@ fn price(framing: u64, payload: u64) {
     }
 }
 
-// The reply, and the lent buffer afterwards.
-fn judged(table: &[u8], lent: &mut [u8]) {
-    match judge::judge(table, lent) {
+fn print_judging(judging: Judging) {
+    match judging {
         Judging::Accepted(length) => {
             print(b"A");
             print_number(length);
@@ -45,6 +41,11 @@ fn judged(table: &[u8], lent: &mut [u8]) {
         Judging::Refused(number, place) => print_refusal(number, place),
     }
     print(b" ");
+}
+
+// The reply, and the lent buffer afterwards.
+fn judged(table: &[u8], lent: &mut [u8]) {
+    print_judging(judge::judge(table, lent));
     console::print_hex(lent);
 }
 
@@ -80,17 +81,20 @@ fn channel(sheet: &[u8], index: u64) {
     }
 }
 
+fn asked(kind: u8, bytes: &[u8], number: u64) {
+    match kind {
+        b'J' => judged_into(bytes, number),
+        b'W' => wire(bytes, number),
+        b'C' => channel(bytes, number),
+        _ => print(b"no such case"),
+    }
+}
+
 // KIND 1 BYTES NUMBER
 fn of_bytes(kind: u8, words: &[u8]) {
     let mut space = [0u8; BYTES_MOST];
     let n = text::bytes(words, &mut space);
-    let number = text::number(text::rest(words));
-    match kind {
-        b'J' => judged_into(&space[..n], number),
-        b'W' => wire(&space[..n], number),
-        b'C' => channel(&space[..n], number),
-        _ => print(b"no such case"),
-    }
+    asked(kind, &space[..n], text::number(text::rest(words)));
 }
 
 fn case(line: &[u8]) {
@@ -105,14 +109,9 @@ fn case(line: &[u8]) {
 }
 
 // Whether there is more to come.
-fn answer(line: Line, buffer: &[u8]) -> bool
-    requires { ⌜ (line .start ≤ line .end) × (line .end ≤ length (now buffer)) ⌝ }
-{
-    let start = line.start;
-    let end = line.end;
-    let found = line.found;
+fn answer(found: Found, line: &[u8]) -> bool {
     match found {
-        Found::Line => case(&buffer[start..end]),
+        Found::Line => case(line),
         Found::TooLong => print(b"line too long\n"),
         Found::Nothing => {}
         Found::End => return false,
@@ -129,7 +128,10 @@ fn cases(buffer: &mut [u8]) {
     let mut line = console::no_line();
     for _ in 0..u64::MAX {
         line = console::next_line(line, buffer);
-        if !answer(line, buffer) {
+        let found = line.found;
+        let start = line.start;
+        let end = line.end;
+        if !answer(found, &buffer[start..end]) {
             return;
         }
     }

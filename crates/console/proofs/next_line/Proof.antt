@@ -11,14 +11,11 @@ use Rattle.console.proofs.next_line.Tie as tie
 abbrev start : tie.After-find → ℕ
 start c = c .before .before .before .least2 .result
 
-abbrev end : tie.After-find → ℕ
-end c = start c + c .find .result
-
 lineless :
-    (c : tie.After-find) (k : ℕ) → k < end c - start c
-    → getD (c .before .before .before .before .before .before .args .buffer .now) (start c + k) 0 ≡ 10 → ⊥
-lineless c =
-    in-buffer _ _ (c .before .before .before .before .least .result - start c) _ (c .find .ensures .1 .0) (omega arith)
+    (c : tie.After-find) {a b : ℕ} → a ≡ start c → b ≡ start c + c .find .result → (k : ℕ) → k < b - a
+    → getD (c .before .before .before .before .before .before .args .buffer .now) (a + k) 0 ≡ 10 → ⊥
+lineless c p q =
+    in-buffer _ _ (c .before .before .before .before .least .result - start c) _ p q (c .find .ensures .1 .0) (omega arith)
 
 least-requires : tie.Need-least-requires
 least-requires c κs = search needs
@@ -41,26 +38,29 @@ find-requires c κs = search needs
 add-end : tie.Need-add-end
 add-end c = search needs
 
-add-t15 : tie.Need-add-t15
-add-t15 c = search needs
+add-handed : tie.Need-add-handed
+add-handed c = search needs
+
+handed-requires : tie.Need-handed-requires
+handed-requires c κs = search needs
 
 same-length : tie.Need-same-length
 same-length c = search needs
 
 returns : tie.Need-returns
-returns c = (search needs, search needs, lineless (c .before .before))
+returns c = (search needs, search needs, lineless (c .before .before) (c .handed .ensures .0) (c .handed .ensures .1))
+
+handed-requires-2 : tie.Need-handed-requires-2
+handed-requires-2 c κs = search needs
 
 same-length-2 : tie.Need-same-length-2
 same-length-2 c = search needs
 
 returns-2 : tie.Need-returns-2
-returns-2 c = (search needs, search needs, lineless (c .before .before))
+returns-2 c = (search needs, search needs, lineless (c .before .before .before) (c .handed2 .ensures .0) (c .handed2 .ensures .1))
 
-refill-requires : tie.Need-refill-requires
-refill-requires c κs = search needs
-
-after-read-requires : tie.Need-after-read-requires
-after-read-requires c κs = search needs
+read-on-requires : tie.Need-read-on-requires
+read-on-requires c κs = search needs
 
 same-length-3 : tie.Need-same-length-3
 same-length-3 c = search needs
@@ -68,8 +68,8 @@ same-length-3 c = search needs
 returns-3 : tie.Need-returns-3
 returns-3 c = search needs
 
-read-up-to-requires : tie.Need-read-up-to-requires
-read-up-to-requires c κs = search needs
+too-long-requires : tie.Need-too-long-requires
+too-long-requires c κs = search needs
 
 same-length-4 : tie.Need-same-length-4
 same-length-4 c = search needs
@@ -77,11 +77,8 @@ same-length-4 c = search needs
 returns-4 : tie.Need-returns-4
 returns-4 c = search needs
 
-refill-requires-2 : tie.Need-refill-requires-2
-refill-requires-2 c κs = search needs
-
-after-read-requires-2 : tie.Need-after-read-requires-2
-after-read-requires-2 c κs = search needs
+read-on-requires-2 : tie.Need-read-on-requires-2
+read-on-requires-2 c κs = search needs
 
 same-length-5 : tie.Need-same-length-5
 same-length-5 c = search needs
@@ -100,19 +97,19 @@ next-line-spec =
     part-find-end
     find-requires
     add-end
-    add-t15
+    add-handed
+    handed-requires
     same-length
     returns
+    handed-requires-2
     same-length-2
     returns-2
-    refill-requires
-    after-read-requires
+    read-on-requires
     same-length-3
     returns-3
-    read-up-to-requires
+    too-long-requires
     same-length-4
     returns-4
-    refill-requires-2
-    after-read-requires-2
+    read-on-requires-2
     same-length-5
     returns-5)
