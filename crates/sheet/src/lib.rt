@@ -1,10 +1,11 @@
 // The sheet: writing it into a lent buffer, and asking any byte string for a wire or a channel of the sheet that it may be.
 ghost use mathlib.Core.Path.{_≡_};
+ghost use mathlib.Core.Bool.{_&&_};
 ghost use Prim.Native.Nat.{ℕ, _*_, _^_, _≤_, _<_};
 ghost use lib.ListN.{length};
 ghost use lib.Dec.{eqb};
 ghost use Rattle.rules.specs.Numbers.{wiresMost, channelsMost, wiresBits, channelsBits, backlogBits, delayBits, endBits};
-ghost use Rattle.rules.specs.Words.{entries};
+ghost use Rattle.rules.specs.Words.{between, entries};
 ghost use Rattle.rules.specs.Replies.{Reply, test, wireReply, channelReply};
 ghost use Rattle.rules.specs.Sheet.{figuresAt, endAt, sheetLength};
 ghost use Rattle.rules.specs.Sheet.{fits, withHead, withChannels, writtenOf, wroteSheet};
@@ -56,6 +57,22 @@ fn sheet_length(wires: usize, channels: usize) -> usize
     (end_at(wires, channels) + (BYTE_BITS - 1)) / BYTE_BITS
 }
 
+// Whether the counts are in their ranges.
+fn counted(wires: usize, channels: usize) -> bool
+    ensures { λ r. ⌜ r ≡ (between 1 wires wiresMost && between 1 channels channelsMost) ⌝ }
+{
+    if wires < 1 {
+        return false;
+    }
+    if Table::WIRES_MOST < wires {
+        return false;
+    }
+    if channels < 1 {
+        return false;
+    }
+    channels <= Table::CHANNELS_MOST
+}
+
 // Whether each of the first n numbers is below the limit.
 fn all_below(numbers: &[u64], n: usize, limit: u64) -> bool
     requires { ⌜ n ≤ length (now numbers) ⌝ }
@@ -73,16 +90,7 @@ fn all_below(numbers: &[u64], n: usize, limit: u64) -> bool
 fn fit(wires: usize, channels: usize, figures: Figures) -> bool
     ensures { λ r. ⌜ r ≡ fits wires channels figures ⌝ }
 {
-    if wires < 1 {
-        return false;
-    }
-    if Table::WIRES_MOST < wires {
-        return false;
-    }
-    if channels < 1 {
-        return false;
-    }
-    if Table::CHANNELS_MOST < channels {
+    if !counted(wires, channels) {
         return false;
     }
     let backlog = figures.backlog;
@@ -183,16 +191,7 @@ fn fault(sheet: &[u8]) -> u64
     let n = counts_of(sheet);
     let wires = n.wires;
     let channels = n.channels;
-    if wires < 1 {
-        return WRONG_COUNT;
-    }
-    if Table::WIRES_MOST < wires {
-        return WRONG_COUNT;
-    }
-    if channels < 1 {
-        return WRONG_COUNT;
-    }
-    if Table::CHANNELS_MOST < channels {
+    if !counted(wires, channels) {
         return WRONG_COUNT;
     }
     let end = end_at(wires, channels);

@@ -1,7 +1,7 @@
 -- The test that figures fit a sheet is true exactly where they fit.
-use mathlib.Core.Path.{_≡_, refl, sym, _∙_}
+use mathlib.Core.Path.{_≡_, refl}
 use mathlib.Core.Bool.{Bool, true, false, _&&_}
-use Prim.Native.Nat.{ℕ, zero, suc, _^_, _<_}
+use Prim.Native.Nat.{ℕ, zero, suc, _^_, _≤_, _<_}
 use native.Mathlib.Omega.{arith}
 use native.Mathlib.Decide.{ℕ-discrete}
 use lib.Dec.{leb, ltb}
@@ -43,6 +43,19 @@ module _ (f : ℕ → Bool) where
       last true b q = q
       last false b q = refl
 
+-- ---- the counts
+
+-- each is within its range
+abbrev pub Ranged : ℕ → ℕ → Type 0
+Ranged n m = (1 ≤ n) × (n ≤ wiresMost) × (1 ≤ m) × (m ≤ channelsMost)
+
+pub true-ranged : (n m : ℕ) → between 1 n wiresMost && between 1 m channelsMost ≡ true → Ranged n m
+true-ranged n m e =
+    let both = and-true (between 1 n wiresMost) (between 1 m channelsMost) e in
+    let wires = and-true (leb 1 n) (leb n wiresMost) (both .0) in
+    let channels = and-true (leb 1 m) (leb m channelsMost) (both .1) in
+    (leb-true 1 n (wires .0), leb-true n wiresMost (wires .1), leb-true 1 m (channels .0), leb-true m channelsMost (channels .1))
+
 -- ---- the figures
 
 -- the counts and the figures in these arrays fit the sheet
@@ -69,14 +82,12 @@ module _ (n m : ℕ) (f : Figures) where
       let ends = and-true _ _ e in
       let delays = and-true _ _ (ends .0) in
       let backlogs = and-true _ _ (delays .0) in
-      let counts = and-true _ _ (backlogs .0) in
-      let wires = and-true (leb 1 n) (leb n wiresMost) (counts .0) in
-      let channels = and-true (leb 1 m) (leb m channelsMost) (counts .1) in
+      let counts = true-ranged n m (backlogs .0) in
       record {
-        wires-least = leb-true 1 n (wires .0);
-        wires-most = leb-true n wiresMost (wires .1);
-        channels-least = leb-true 1 m (channels .0);
-        channels-most = leb-true m channelsMost (channels .1);
+        wires-least = counts .0;
+        wires-most = counts .1;
+        channels-least = counts .2;
+        channels-most = counts .3;
         backlog-fits = λ w l. ltb-true _ _ (true-every _ n (backlogs .1) w l);
         delay-fits = λ w l. ltb-true _ _ (true-every _ n (delays .1) w l);
         end-fits = λ k l. ltb-true _ _ (true-every _ m (ends .1) k l);

@@ -1,6 +1,7 @@
 -- Asking a sheet, by its replies: what each test refuses, and what is known where all are passed.
 use mathlib.Core.Path.{_≡_, refl, sym, _∙_}
 use mathlib.Core.Logic.{_⊎_, inl, inr, _≢_}
+use mathlib.Core.Bool.{Bool, true, false, _&&_}
 use mathlib.Core.List.{List, [], _∷_}
 use Prim.Native.Nat.{ℕ, _+_, _-_, _*_, _≤_, _<_}
 use native.Mathlib.Omega.{arith}
@@ -9,11 +10,13 @@ use lib.ListN.{length}
 use lib.Dec.{eqb}
 use borrow.Author.Tests.{le-leb, lt-leb, lt-ltb, le-ltb, eq-eqb, ne-eqb}
 use Rattle.bits.specs.Field.{field}
-use Rattle.rules.specs.Words.{up}
+use Rattle.rules.specs.Words.{up, between}
 use Rattle.rules.specs.Numbers.{wiresMost, channelsMost, backlogBits, delayBits, endBits}
 use Rattle.rules.specs.Replies.{Reply, granted, refused, test}
 use Rattle.rules.specs.Table.{fillingOf}
 use Rattle.rules.specs.Sheet.{figuresAt, endAt, sheetLength, sheetWires, sheetChannels, sheetTests, askWire, askChannel}
+use Rattle.rules.proofs.Tests.{gate-through, le-gate}
+use Rattle.rules.proofs.Sheet.Fitting.{true-ranged}
 
 -- a count outside its range
 abbrev pub Outside : ℕ → ℕ → Type 0
@@ -29,12 +32,42 @@ pub record Counted (s : List ℕ) : Type 0 where
 
 -- ---- the tests, by the first that fails
 
+-- two tests that give the same refusal
+one-fails : (a b : Bool) (number place : ℕ) (rest : Reply) → a && b ≡ false
+    → test a number place (test b number place rest) ≡ refused number place
+unfolding test
+one-fails true true number place rest e = cc
+one-fails true false number place rest e = refl
+one-fails false b number place rest e = refl
+
+module _ (s : List ℕ) where
+  -- both counts are within their ranges
+  abbrev pub counts : Bool
+  counts = between 1 (sheetWires s) wiresMost && between 1 (sheetChannels s) channelsMost
+
+  pub counts-true : 2 ≤ length s → counts ≡ true → Counted s
+  counts-true two e =
+      let ranged = true-ranged (sheetWires s) (sheetChannels s) e in
+      record {
+        two-bytes = two;
+        wires-least = ranged .0;
+        wires-most = ranged .1;
+        channels-least = ranged .2;
+        channels-most = ranged .3;
+      }
+
 module _ (s : List ℕ) (rest : Reply) where
   pub tests-short : length s < 2 → sheetTests s rest ≡ refused 16 0
   unfolding sheetTests test
   tests-short l = rw (lt-leb 2 (length s) l)
 
   module _ (two : 2 ≤ length s) where
+    pub tests-counts : counts s ≡ false → sheetTests s rest ≡ refused 17 0
+    unfolding sheetTests
+    tests-counts e =
+        gate-through (le-gate 16 0 2 (length s)) two _
+        ∙ one-fails (between 1 (sheetWires s) wiresMost) (between 1 (sheetChannels s) channelsMost) 17 0 _ e
+
     pub tests-wires : Outside (sheetWires s) wiresMost → sheetTests s rest ≡ refused 17 0
     unfolding sheetTests test
     tests-wires (inl l) = rw (le-leb 2 (length s) two, lt-leb 1 (sheetWires s) l)

@@ -249,8 +249,8 @@ loop-again c =
       most = omega arith;
       none = lp .inv .none;
       hops =
-          hops-next (s f) (n f) (k f) (hops-from e) (count e) (lp .i) (lp .least) (omega arith) (lp .inv .hops) (wire w) (wire-is w)
-          (omega arith) (omega arith);
+          hops-next (s f) (n f) (k f) (hops-from e) (count e) (lp .i) (lp .least) (omega arith) (lp .inv .hops)
+          (wire w) (wire-is w) (omega arith) (omega arith);
       routes =
           routes-set (viewOf (s f)) (k f) (lp .i) (omega (arith, within w)) (omega (arith, short e)) (lp .inv .routes) (named w);
     }
@@ -363,8 +363,8 @@ returns-3 c =
     let r = called e in
     let lp = hop w .loop in (
       stop r 9 (k r) (λ rest. left e rest
-          ∙ hops-9 (s r) (n r) (k r) (hops-from e) (count e) (lp .i) (lp .least) (omega arith) (lp .inv .hops) (wire w) (wire-is w)
-          (omega arith) rest),
+          ∙ hops-9 (s r) (n r) (k r) (hops-from e) (count e) (lp .i) (lp .least) (omega arith) (lp .inv .hops)
+          (wire w) (wire-is w) (omega arith) rest),
       tt,
     )
 
@@ -375,8 +375,8 @@ returns-4 c =
     let r = called e in
     let lp = hop w .loop in (
       stop r 10 (k r) (λ rest. left e rest
-          ∙ hops-10 (s r) (n r) (k r) (hops-from e) (count e) (lp .i) (lp .least) (omega arith) (lp .inv .hops) (wire w) (wire-is w)
-          (omega arith) (omega arith) rest),
+          ∙ hops-10 (s r) (n r) (k r) (hops-from e) (count e) (lp .i) (lp .least) (omega arith) (lp .inv .hops)
+          (wire w) (wire-is w) (omega arith) (omega arith) rest),
       tt,
     )
 

@@ -118,7 +118,8 @@ returns-3 c =
     let h = top (w .before) in
     left-refused (s h) _ _ (c .refused3 .result)
     (after-wires (w .before)
-    ∙ refused-by (each (channelTests (s h)) 0 (m h)) same _ (w .channels-of .ensures .0) _ _ (c .before .before .answer3 .given .1) _)
+    ∙ refused-by (each (channelTests (s h)) 0 (m h)) same _ (w .channels-of .ensures .0) _ _
+    (c .before .before .answer3 .given .1) _)
     (c .refused3 .ensures)
 
 enum-told-3 : tie.Need-enum-told-3
