@@ -1,9 +1,11 @@
 -- `sheet::ask_wire` meets its contract.
 -- Assumes nothing.
-use mathlib.Core.Path.{sym, _∙_}
-use Prim.Native.Nat.{_+_}
+use mathlib.Core.Path.{_≡_, sym, _∙_}
+use mathlib.Core.List.{List}
+use Prim.Native.Nat.{ℕ, _+_}
 use native.Mathlib.Omega.{arith}
 use borrow.Author.Needs.{needs}
+use Rattle.bits.specs.Field.{field}
 use Rattle.bits.proofs.Laws.{number-is}
 use Rattle.rules.specs.Numbers.{backlogBits, delayBits}
 use Rattle.rules.specs.Sheet.{figuresAt, endAt}
@@ -47,15 +49,29 @@ number-requires c κs = search needs
 number-requires-2 : tie.Need-number-requires-2
 number-requires-2 c κs = search needs
 
+module _ (c : tie.After-number2) where
+  abbrev passed : tie.Else1
+  passed = c .before .before .before .before .before
+
+  abbrev s : List ℕ
+  s = st passed .args .sheet .now
+
+  abbrev at : ℕ
+  at = c .before .before .figures-at .result
+
+  backlog : c .before .number .result ≡ field s at backlogBits
+  unfolding figuresAt endAt
+  backlog = c .before .number .ensures ∙ number-is s _ _ (omega arith) (omega (arith, pass passed))
+
+  delay : c .number2 .result ≡ field s (at + backlogBits) delayBits
+  unfolding figuresAt endAt
+  delay = c .number2 .ensures ∙ number-is s _ _ (omega arith) (omega (arith, pass passed))
+
 returns-3 : tie.Need-returns-3
 unfolding figuresAt endAt
 returns-3 c =
-    let e = c .before .before .before .before .before in
-    let s = st e .args .sheet .now in
-    let at = c .before .before .figures-at .result in
-    let backlog = c .before .number .ensures ∙ number-is s at backlogBits (omega arith) (omega (arith, pass e)) in
-    let delay = c .number2 .ensures ∙ number-is s (at + backlogBits) delayBits (omega arith) (omega (arith, pass e)) in
-    sym (ask-wire-some s (pass e) (st e .args .wire) _ _ _ _ (omega arith) (omega arith) (omega arith) backlog delay)
+    let e = passed c in
+    sym (ask-wire-some (s c) (pass e) (st e .args .wire) _ _ _ _ (omega arith) (omega arith) (omega arith) (backlog c) (delay c))
 
 pub ask-wire-spec : {M : Type 1} → statement M
 ask-wire-spec =

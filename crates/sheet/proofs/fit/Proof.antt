@@ -6,7 +6,7 @@ use Prim.Native.Nat.{_^_}
 use native.Mathlib.Omega.{arith}
 use borrow.Author.Needs.{needs}
 use borrow.Author.Tests.{not-true, not-false}
-use Rattle.rules.specs.Numbers.{wiresMost, channelsMost, backlogBits}
+use Rattle.rules.specs.Numbers.{wiresMost, channelsMost, backlogBits, delayBits}
 use Rattle.rules.specs.Words.{between}
 use Rattle.rules.specs.Sheet.{fits}
 use Rattle.rules.proofs.Sheet.Fitting.{Ranged, true-ranged}
@@ -41,19 +41,18 @@ shl-all-below c = search needs
 all-below-requires : tie.Need-all-below-requires
 all-below-requires c κs = omega (arith, slice-aggregate-all-below c, most (c .before .before))
 
+module _ (c : tie.After-all-below) where
+  abbrev ranges : tie.Else1
+  ranges = c .before .before .before
+
+  backlogs : c .all-below .result ≡ allBelow (st ranges .args .figures .backlog) (st ranges .args .wires) (2 ^ backlogBits)
+  backlogs = c .all-below .ensures
+
 returns-2 : tie.Need-returns-2
 unfolding fits
 returns-2 c =
     let b = c .before in
-    let e = b .before .before .before in
-    rw (ranged e, sym (b .all-below .ensures) ∙ not-true (b .all-below .result) (c .if2 .taken))
-
-module _ (c : tie.Else2) where
-  abbrev else1 : tie.Else1
-  else1 = c .before .before .before .before
-
-  backlogs : allBelow (st else1 .args .figures .backlog) (st else1 .args .wires) (2 ^ backlogBits) ≡ true
-  backlogs = sym (c .before .all-below .ensures) ∙ not-false (c .before .all-below .result) (c .if2 .left)
+    rw (ranged (ranges b), sym (backlogs b) ∙ not-true (b .all-below .result) (c .if2 .taken))
 
 slice-aggregate-all-below-2 : tie.Need-slice-aggregate-all-below-2
 slice-aggregate-all-below-2 c = search needs
@@ -63,14 +62,30 @@ shl-all-below-2 c = search needs
 
 all-below-requires-2 : tie.Need-all-below-requires-2
 all-below-requires-2 c κs =
-    omega (arith, slice-aggregate-all-below-2 c, most (else1 (c .before .before)))
+    omega (arith, slice-aggregate-all-below-2 c, most (ranges (c .before .before .before)))
+
+module _ (c : tie.After-all-below2) where
+  abbrev below : tie.After-all-below
+  below = c .before .before .before .before
+
+  abbrev begun : tie.Start
+  begun = st (ranges below)
+
+  backlogs-fit : allBelow (begun .args .figures .backlog) (begun .args .wires) (2 ^ backlogBits) ≡ true
+  backlogs-fit = sym (backlogs below) ∙ not-false (below .all-below .result) (c .before .before .before .if2 .left)
+
+  delays : c .all-below2 .result ≡ allBelow (begun .args .figures .delay) (begun .args .wires) (2 ^ delayBits)
+  delays = c .all-below2 .ensures
 
 returns-3 : tie.Need-returns-3
 unfolding fits
 returns-3 c =
     let d = c .before in
-    let e = d .before .before .before in
-    rw (ranged (else1 e), backlogs e, sym (d .all-below2 .ensures) ∙ not-true (d .all-below2 .result) (c .if3 .taken))
+    rw (
+      ranged (ranges (below d)),
+      backlogs-fit d,
+      sym (delays d) ∙ not-true (d .all-below2 .result) (c .if3 .taken),
+    )
 
 slice-aggregate-all-below-3 : tie.Need-slice-aggregate-all-below-3
 slice-aggregate-all-below-3 c = search needs
@@ -80,16 +95,18 @@ shl-all-below-3 c = search needs
 
 all-below-requires-3 : tie.Need-all-below-requires-3
 all-below-requires-3 c κs =
-    let e = c .before .before .before .before .before .before in
-    omega (arith, slice-aggregate-all-below-3 c, most (else1 e))
+    omega (arith, slice-aggregate-all-below-3 c, most (ranges (below (c .before .before .before))))
 
 returns-4 : tie.Need-returns-4
 unfolding fits
 returns-4 c =
     let f = c .before .before .before in
     let d = f .before in
-    let e = d .before .before .before in
-    rw (ranged (else1 e), backlogs e, sym (d .all-below2 .ensures) ∙ not-false (d .all-below2 .result) (f .if3 .left))
+    rw (
+      ranged (ranges (below d)),
+      backlogs-fit d,
+      sym (delays d) ∙ not-false (d .all-below2 .result) (f .if3 .left),
+    )
     (c .all-below3 .ensures)
 
 pub fit-spec : {M : Type 1} → statement M
