@@ -38,7 +38,8 @@ ahead-none t =
 
 -- the first wire of channel c's route is marked
 pub ahead-next :
-    (t : View) (c x : ℕ) (ahead : List ℕ) → AheadBelow t c ahead → 1 ≤ length (t .route c) → x ≡ getD (t .route c) 0 0 → x < wiresMost →
+    (t : View) (c x : ℕ) (ahead : List ℕ) → AheadBelow t c ahead → 1 ≤ length (t .route c) →
+    x ≡ getD (t .route c) 0 0 → x < wiresMost →
     AheadBelow t (c + 1) (set ahead x (2 * fullFrame))
 unfolding some
 ahead-next t c x ahead so long is l =
@@ -55,7 +56,8 @@ ahead-next t c x ahead so long is l =
     }
 
 pub ahead-most : (t : View) (c w : ℕ) → aheadOf t c w ≤ 2 * fullFrame
-ahead-most t c w = elim (bool-cases (some (λ k. begins w (t .route k)) c)) [ inl e ↦ rw e (omega arith) | inr e ↦ rw e (omega arith) ]
+ahead-most t c w =
+    elim (bool-cases (some (λ k. begins w (t .route k)) c)) [ inl e ↦ rw e (omega arith) | inr e ↦ rw e (omega arith) ]
 
 count-none : (f : ℕ → Bool) → count f 0 ≡ 0
 unfolding sum
@@ -72,7 +74,8 @@ some-count f (suc n) = elim (bool-cases (f n)) [
 
 -- the addition, from what the walk has of the wire
 pub hold-is :
-    (t : View) (w number rate ahead : ℕ) → number ≡ count (on t w) (t .channels) → rate ≡ t .rate w → ahead ≡ aheadOf t (t .channels) w →
+    (t : View) (w number rate ahead : ℕ) → number ≡ count (on t w) (t .channels) → rate ≡ t .rate w →
+    ahead ≡ aheadOf t (t .channels) w →
     only (ltb 0 number) (rate * up ahead rate) ≡ only (carries t w) (t .rate w * K t w)
 unfolding K
 hold-is t w number rate ahead n r a = rw (n, r, a, some-count (on t w) (t .channels)) refl
@@ -81,6 +84,7 @@ hold-is t w number rate ahead n r a = rw (n, r, a, some-count (on t w) (t .chann
 pub whole-most : (rate ahead : ℕ) → 1 ≤ rate → rate ≤ 100 → ahead ≤ 2 * fullFrame → rate * up ahead rate < 2 * fullFrame + 100
 whole-most rate ahead l m a = omega (arith, mul-div-le (ahead + (rate - 1)) rate)
 
-pub hold-most : (b : Bool) (rate ahead : ℕ) → 1 ≤ rate → rate ≤ 100 → ahead ≤ 2 * fullFrame → only b (rate * up ahead rate) < 2 * fullFrame + 100
+pub hold-most : (b : Bool) (rate ahead : ℕ) → 1 ≤ rate → rate ≤ 100 → ahead ≤ 2 * fullFrame
+    → only b (rate * up ahead rate) < 2 * fullFrame + 100
 hold-most true rate ahead l m a = whole-most rate ahead l m a
 hold-most false rate ahead l m a = omega arith

@@ -27,7 +27,8 @@ module _ (t : View) (k : ℕ) (list counts loads : List ℕ) where
   hops-start filed = filing-same (on t) (part t) k list counts loads _ filed _ (λ w. refl)
 
   pub hops-end : (i : ℕ) → length (t .route k) ≤ i → FiledHops t k i list counts loads → FiledBelow t (k + 1) list counts loads
-  hops-end i l here = filed-next (on t) (part t) k list counts loads _ here (λ w. ap (λ (xs : List ℕ). has w xs) (take-all i (t .route k) l))
+  hops-end i l here =
+      filed-next (on t) (part t) k list counts loads _ here (λ w. ap (λ (xs : List ℕ). has w xs) (take-all i (t .route k) l))
 
   module _ (sound : Sound t) (less : k < t .channels) (i : ℕ) (short : i < length (t .route k))
       (here : FiledHops t k i list counts loads) (w : ℕ) (wire : w ≡ getD (t .route k) i 0) where
@@ -57,7 +58,8 @@ module _ (t : View) (k : ℕ) (list counts loads : List ℕ) where
         )
 
     pub hop-filed : FiledHops t k (i + 1)
-        (set list (channelsMost * w + getD counts w 0) k) (set counts w (getD counts w 0 + 1)) (set loads w (getD loads w 0 + part t k))
+        (set list (channelsMost * w + getD counts w 0) k) (set counts w (getD counts w 0 + 1))
+        (set loads w (getD loads w 0 + part t k))
     hop-filed =
         filed-put (on t) (part t) k list counts loads _ here w most hop-wire new (λ x. has x (take (i + 1) (t .route k)))
         (rw wire (hop-there (t .route k) i short))

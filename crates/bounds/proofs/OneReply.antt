@@ -11,7 +11,8 @@ use Rattle.bounds.proofs.bounds.Reads as bounds-reads
 
 module _ (κs : Lfts 1) where
   pub bounds-one :
-      (a : ArgsD bounds.signature κs) (r r' : ResD bounds.signature κs) (e e' : AtExit (endedOf 1 bounds-kinds.ps bounds-kinds.r) κs) →
+      (a : ArgsD bounds.signature κs) (r r' : ResD bounds.signature κs)
+      (e e' : AtExit (endedOf 1 bounds-kinds.ps bounds-kinds.r) κs) →
       bounds-reads.Post κs a r e → bounds-reads.Post κs a r' e' → r ≡ r'
   bounds-one a r r' e e' p q =
       let answers = reading-one (r .answer) (r' .answer) (p .0 ∙ sym (q .0)) in

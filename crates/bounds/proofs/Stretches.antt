@@ -76,7 +76,8 @@ apart x w a b p q o e = o (omega arith)
 inside-stretch : (x a : ℕ) → x < wiresMost → a < channelsMost → channelsMost * x + a < filedMost
 inside-stretch x a p q = omega arith
 
-pub filed-none : (inside : ℕ → ℕ → Bool) (part : ℕ → ℕ) → Filing inside part 0 (λ w. false) (replicate filedMost 0) (replicate wiresMost 0) (replicate wiresMost 0)
+pub filed-none : (inside : ℕ → ℕ → Bool) (part : ℕ → ℕ)
+    → Filing inside part 0 (λ w. false) (replicate filedMost 0) (replicate wiresMost 0) (replicate wiresMost 0)
 unfolding sum
 filed-none inside part =
     record {
@@ -100,15 +101,22 @@ module _ (inside : ℕ → ℕ → Bool) (part : ℕ → ℕ) (c : ℕ) where
 
     module _ (x : ℕ) (c-most : c < channelsMost) (x-most : x < wiresMost) (out : done x ≡ false) where
       pub next-fits : channelsMost * x + getD counts x 0 < filedMost
-      next-fits = omega (arith, inside-stretch x (count (inside x) c) x-most (omega (arith, count-most (inside x) c)), next-place x x-most out)
+      next-fits =
+          omega (
+            arith,
+            inside-stretch x (count (inside x) c) x-most (omega (arith, count-most (inside x) c)),
+            next-place x x-most out,
+          )
 
       pub filed-put : (after : ℕ → Bool) → after x ≡ true → ((w : ℕ) → (w ≡ x → ⊥) → after w ≡ done w)
-          → Filing inside part c after (set list (channelsMost * x + getD counts x 0) c) (set counts x (getD counts x 0 + 1)) (set loads x (getD loads x 0 + part c))
+          → Filing inside part c after (set list (channelsMost * x + getD counts x 0) c) (set counts x (getD counts x 0 + 1))
+          (set loads x (getD loads x 0 + part c))
       filed-put after now same =
           let at = channelsMost * x + getD counts x 0 in
           let n : getD counts x 0 ≡ count (inside x) c = next-place x x-most out in
           let other : (w k : ℕ) → k ≤ c → (w ≡ x → ⊥) → channelsMost * w + count (inside w) k ≡ at → ⊥
-          = λ w k l o e. apart x w (count (inside x) c) (count (inside w) k) (omega (arith, count-most (inside x) c)) (omega (arith, count-most (inside w) k)) o (omega (arith, e)) in
+          = λ w k l o e. apart x w (count (inside x) c) (count (inside w) k) (omega (arith, count-most (inside x) c))
+          (omega (arith, count-most (inside w) k)) o (omega (arith, e)) in
           record {
             list-length = length-set list at c ∙ filing .list-length;
             counts-length = length-set counts x _ ∙ filing .counts-length;
@@ -118,19 +126,25 @@ module _ (inside : ℕ → ℕ → Bool) (part : ℕ → ℕ) (c : ℕ) where
               | no o ↦ rw (same w o) (getD-set-other counts x w _ 0 o ∙ filing .counted w l)
             ];
             loaded = λ w l. elim (ℕ-discrete w x) [
-              | yes e ↦ rw (e, now) (getD-set-same loads x _ 0 (omega (arith, filing .loads-length)) ∙ ap (λ (a : ℕ). a + part c) (next-load x x-most out))
+              | yes e ↦
+                  rw (e, now)
+                  (getD-set-same loads x _ 0 (omega (arith, filing .loads-length))
+                  ∙ ap (λ (a : ℕ). a + part c) (next-load x x-most out))
               | no o ↦ rw (same w o) (getD-set-other loads x w _ 0 o ∙ filing .loaded w l)
             ];
             below = λ w k l h e. elim (ℕ-discrete w x) [
               | yes q ↦
-                  (let before : channelsMost * w + count (inside w) k < at = omega (arith, count-less (inside w) k c e h, ap (λ (v : ℕ). count (inside v) c) q, n) in
+                  (let before : channelsMost * w + count (inside w) k < at
+                  = omega (arith, count-less (inside w) k c e h, ap (λ (v : ℕ). count (inside v) c) q, n) in
                   getD-set-other list at _ c 0 (λ z. omega arith) ∙ filing .below w k l h e)
               | no o ↦ getD-set-other list at _ c 0 (other w k (omega arith) o) ∙ filing .below w k l h e
             ];
             here = λ w l e. elim (ℕ-discrete w x) [
               | yes q ↦
-                  (let this : channelsMost * w + count (inside w) c ≡ at = omega (arith, ap (λ (v : ℕ). count (inside v) c) q, n) in
-                  ap (λ (i : ℕ). getD (set list at c) i 0) this ∙ getD-set-same list at c 0 (omega (arith, next-fits, filing .list-length)))
+                  (let this : channelsMost * w + count (inside w) c ≡ at
+                  = omega (arith, ap (λ (v : ℕ). count (inside v) c) q, n) in
+                  ap (λ (i : ℕ). getD (set list at c) i 0) this
+                  ∙ getD-set-same list at c 0 (omega (arith, next-fits, filing .list-length)))
               | no o ↦ getD-set-other list at _ c 0 (other w c (omega arith) o) ∙ filing .here w l (sym (same w o) ∙ e)
             ];
           }
@@ -154,8 +168,10 @@ module _ (inside : ℕ → ℕ → Bool) (part : ℕ → ℕ) (c : ℕ) where
           list-length = filing .list-length;
           counts-length = filing .counts-length;
           loads-length = filing .loads-length;
-          counted = λ w l. omega (arith, filing .counted w l, tally-next (inside w) (λ k. 1) c, ap (λ (b : Bool). only b 1) (same w));
-          loaded = λ w l. omega (arith, filing .loaded w l, tally-next (inside w) part c, ap (λ (b : Bool). only b (part c)) (same w));
+          counted =
+              λ w l. omega (arith, filing .counted w l, tally-next (inside w) (λ k. 1) c, ap (λ (b : Bool). only b 1) (same w));
+          loaded =
+              λ w l. omega (arith, filing .loaded w l, tally-next (inside w) part c, ap (λ (b : Bool). only b (part c)) (same w));
           below = λ w k l h e. elim (ℕ-discrete k c) [
             | yes q ↦
                 (let there : inside w c ≡ true = rw (sym q) e in
@@ -165,7 +181,8 @@ module _ (inside : ℕ → ℕ → Bool) (part : ℕ → ℕ) (c : ℕ) where
           here = λ w l e. absurd (true-false (sym e));
         }
 
-pub filed-stretch : (inside : ℕ → ℕ → Bool) (part : ℕ → ℕ) (m : ℕ) (list counts loads : List ℕ) → Filing inside part m (λ w. false) list counts loads
+pub filed-stretch : (inside : ℕ → ℕ → Bool) (part : ℕ → ℕ) (m : ℕ) (list counts loads : List ℕ)
+    → Filing inside part m (λ w. false) list counts loads
     → m ≤ channelsMost → (w : ℕ) → w < wiresMost → Stretch (inside w) m list (channelsMost * w) (getD counts w 0)
 filed-stretch inside part m list counts loads filed h w l =
     let all : getD counts w 0 ≡ count (inside w) m = next-place inside part m list counts loads (λ w. false) filed w l refl in
@@ -176,7 +193,8 @@ filed-stretch inside part m list counts loads filed h w l =
           (let found = placed (inside w) m j (omega (arith, all)) in
           let k = found .0 in
           let e = found .1 in
-          let there : getD list (channelsMost * w + j) 0 ≡ k = ap (λ (i : ℕ). getD list (channelsMost * w + i) 0) (sym (e .place)) ∙ filed .below w k l (e .less) (e .there) in
+          let there : getD list (channelsMost * w + j) 0 ≡ k
+          = ap (λ (i : ℕ). getD list (channelsMost * w + i) 0) (sym (e .place)) ∙ filed .below w k l (e .less) (e .there) in
           rw there e);
     }
 
@@ -259,7 +277,8 @@ module _ (inside : ℕ → Bool) where
           kept = λ k l. refl;
         }
 
-    pub raised-end : (j : ℕ) → j ≡ count inside m → (after : List ℕ) → Raised (among inside j) m d before after → Raised inside m d before after
+    pub raised-end : (j : ℕ) → j ≡ count inside m → (after : List ℕ) → Raised (among inside j) m d before after
+        → Raised inside m d before after
     raised-end j all after r =
         record {
           same-length = r .same-length;
@@ -277,7 +296,9 @@ module _ (inside : ℕ → Bool) where
           record {
             same-length = length-set after k _ ∙ r .same-length;
             raised = λ i l. elim (ℕ-discrete i k) [
-              | yes q ↦ rw (q, among-after m j k entry) (getD-set-same after k _ 0 (omega (arith, r .same-length, entry .less)) ∙ ap (λ (a : ℕ). a + d) raised-here)
+              | yes q ↦
+                  rw (q, among-after m j k entry)
+                  (getD-set-same after k _ 0 (omega (arith, r .same-length, entry .less)) ∙ ap (λ (a : ℕ). a + d) raised-here)
               | no o ↦ rw (among-other m j k entry i o) (getD-set-other after k i _ 0 o ∙ r .raised i l)
             ];
             kept = λ i l. getD-set-other after k i _ 0 (λ q. omega (arith, entry .less)) ∙ r .kept i l;

@@ -51,7 +51,8 @@ pub record Loaded (t : View) : Type 0 where
   pub room-lt : (w : ℕ) → t .room w < 2 ^ 24
   pub prop-lt : (w : ℕ) → t .prop w < 2 ^ 10
 
-pub loaded : (s : List ℕ) → Sound (viewOf s) → ((w : ℕ) → w < viewOf s .wires → load (viewOf s) w ≤ viewOf s .rate w * viewOf s .hyper) → Loaded (viewOf s)
+pub loaded : (s : List ℕ) → Sound (viewOf s)
+    → ((w : ℕ) → w < viewOf s .wires → load (viewOf s) w ≤ viewOf s .rate w * viewOf s .hyper) → Loaded (viewOf s)
 unfolding roomOf propOf
 loaded s sound loads =
     record { sound = sound; loads = loads; room-lt = λ w. field-lt s _ 24; prop-lt = λ w. field-lt s _ 10 }
@@ -65,7 +66,8 @@ backlog-is t w = refl
 zeros : (places n : ℕ) (f : ℕ → ℕ) → ((i : ℕ) → f i ≡ 0) → replicate places 0 ≡ column places n f
 zeros places n f z = column-none places f ∙ column-more places f 0 n (omega arith) (λ i l h. z i)
 
-pub walking-start : (t : View) → Walking t 0 (replicate wiresMost 0) (replicate wiresMost 0) (replicate channelsMost 0) (replicate channelsMost 0)
+pub walking-start : (t : View)
+    → Walking t 0 (replicate wiresMost 0) (replicate wiresMost 0) (replicate channelsMost 0) (replicate channelsMost 0)
 walking-start t =
     record {
       backlogs-told = column-none wiresMost (backlog t);
@@ -76,7 +78,8 @@ walking-start t =
     }
 
 -- entries of a column that are raised
-raised-column : (places m d : ℕ) (f g : ℕ → ℕ) (inside : ℕ → Bool) (before after : List ℕ) → m ≤ places → before ≡ column places m f
+raised-column : (places m d : ℕ) (f g : ℕ → ℕ) (inside : ℕ → Bool) (before after : List ℕ) → m ≤ places
+    → before ≡ column places m f
     → Raised inside m d before after → ((k : ℕ) → k < m → g k ≡ f k + only (inside k) d) → after ≡ column places m g
 raised-column places m d f g inside before after h e r next =
     let at : (k : ℕ) → getD before k 0 ≡ getD (column places m f) k 0 = λ k. ap (λ (a : List ℕ). getD a k 0) e in
@@ -84,15 +87,19 @@ raised-column places m d f g inside before after h e r next =
     (λ k l p. r .raised k l ∙ ap (λ (x : ℕ). x + only (inside k) d) (at k ∙ column-at places f m k l p) ∙ sym (next k l))
     (λ k l p. r .kept k l ∙ at k ∙ column-past places f m k l p)
 
-module _ (t : View) (loaded : Loaded t) (w : ℕ) (backlogs delays jitters ends : List ℕ) (here : Walking t w backlogs delays jitters ends) where
-  gathered-next : (f : ℕ → ℕ) (d : ℕ) → d ≡ f w → (k : ℕ) → k < t .channels → gathered t f (w + 1) k ≡ gathered t f w k + only (on t w k) d
+module _ (t : View) (loaded : Loaded t) (w : ℕ) (backlogs delays jitters ends : List ℕ)
+    (here : Walking t w backlogs delays jitters ends) where
+  gathered-next : (f : ℕ → ℕ) (d : ℕ) → d ≡ f w → (k : ℕ) → k < t .channels
+      → gathered t f (w + 1) k ≡ gathered t f w k + only (on t w k) d
   gathered-next f d e k l =
-      reach-next f (t .wires) 0 w (t .route k) (loaded .sound .climbs k l) ∙ ap (λ (x : ℕ). gathered t f w k + only (on t w k) x) (sym e)
+      reach-next f (t .wires) 0 w (t .route k) (loaded .sound .climbs k l)
+      ∙ ap (λ (x : ℕ). gathered t f w k + only (on t w k) x) (sym e)
 
   -- with the wire's backlog x and delay y, and what it adds
   pub walking-next : w < t .wires → backlog t w ≤ t .room w
       → (x y more-jitter more-delay : ℕ) → x ≡ backlog t w → y ≡ delay t w → more-jitter ≡ late t w → more-delay ≡ spent t w
-      → (jitters' ends' : List ℕ) → Raised (on t w) (t .channels) more-jitter jitters jitters' → Raised (on t w) (t .channels) more-delay ends ends'
+      → (jitters' ends' : List ℕ) → Raised (on t w) (t .channels) more-jitter jitters jitters'
+      → Raised (on t w) (t .channels) more-delay ends ends'
       → Walking t (w + 1) (set backlogs w x) (set delays w y) jitters' ends'
   walking-next l room x y more-jitter more-delay ex ey ej ee jitters' ends' j e =
       let most = loaded .sound .channels-most in
@@ -100,8 +107,12 @@ module _ (t : View) (loaded : Loaded t) (w : ℕ) (backlogs delays jitters ends 
       record {
         backlogs-told = column-set wiresMost (backlog t) w small (here .backlogs-told) ex;
         delays-told = column-set wiresMost (delay t) w small (here .delays-told) ey;
-        jitters-told = raised-column channelsMost (t .channels) more-jitter _ _ (on t w) jitters jitters' most (here .jitters-told) j (gathered-next (late t) more-jitter ej);
-        ends-told = raised-column channelsMost (t .channels) more-delay _ _ (on t w) ends ends' most (here .ends-told) e (gathered-next (spent t) more-delay ee);
+        jitters-told =
+            raised-column channelsMost (t .channels) more-jitter _ _ (on t w) jitters jitters' most (here .jitters-told) j
+            (gathered-next (late t) more-jitter ej);
+        ends-told =
+            raised-column channelsMost (t .channels) more-delay _ _ (on t w) ends ends' most (here .ends-told) e
+            (gathered-next (spent t) more-delay ee);
         passed = λ x less. elim (ℕ-discrete x w) [
           | yes q ↦ rw q room
           | no o ↦ here .passed x (omega arith)
@@ -114,7 +125,8 @@ module _ (t : View) (loaded : Loaded t) (w : ℕ) (backlogs delays jitters ends 
     pub delay-small : (x : ℕ) → x < w → delay t x < 2 ^ 24
     delay-small x l = omega (arith, delay-le t x (loaded .sound .rate-least x (omega arith)), here .passed x l, loaded .room-lt x)
 
-    gathered-most : (f : ℕ → ℕ) (most : ℕ) → ((x : ℕ) → x < w → f x ≤ most) → (k : ℕ) → k < t .channels → gathered t f w k ≤ hopsMost * most
+    gathered-most : (f : ℕ → ℕ) (most : ℕ) → ((x : ℕ) → x < w → f x ≤ most) → (k : ℕ) → k < t .channels
+        → gathered t f w k ≤ hopsMost * most
     gathered-most f most h k l =
         le-trans (reach-most f most w (t .route k) h) (mul-le-mul-right most (loaded .sound .hops-most k l))
 
@@ -122,7 +134,11 @@ module _ (t : View) (loaded : Loaded t) (w : ℕ) (backlogs delays jitters ends 
     jitter-small k l = omega (arith, gathered-most (late t) (2 ^ 24) (λ x less. omega (arith, delay-small x less)) k l)
 
     pub end-small : (k : ℕ) → k < t .channels → gathered t (spent t) w k < 2 ^ 28
-    end-small k l = omega (arith, gathered-most (spent t) (2 ^ 24 + 2 ^ 10) (λ x less. omega (arith, delay-small x less, loaded .prop-lt x)) k l)
+    end-small k l =
+        omega (
+          arith,
+          gathered-most (spent t) (2 ^ 24 + 2 ^ 10) (λ x less. omega (arith, delay-small x less, loaded .prop-lt x)) k l,
+        )
 
     pub jitter-at : (k : ℕ) → k < t .channels → getD jitters k 0 ≡ gathered t (late t) w k
     jitter-at = entry-at channelsMost (t .channels) _ jitters (here .jitters-told) (loaded .sound .channels-most)
@@ -141,10 +157,12 @@ module _ (t : View) (loaded : Loaded t) (w : ℕ) (backlogs delays jitters ends 
   pub burst-lt : w < t .wires → burst t (known t w) w < 2 ^ 63
   burst-lt l =
       let sound = loaded .sound in
-      let most : load t w ≤ 100 * hyperMost = le-trans (loaded .loads w l) (mul-le-mul (sound .rate-most w l) (sound .hyper-most)) in
+      let most : load t w ≤ 100 * hyperMost
+      = le-trans (loaded .loads w l) (mul-le-mul (sound .rate-most w l) (sound .hyper-most)) in
       omega (
         arith,
-        burst-small t sound (known t w) w jitterMost (λ k less there. omega (arith, known-gathered (omega arith) k less there, jitter-small (omega arith) k less)),
+        burst-small t sound (known t w) w jitterMost
+            (λ k less there. omega (arith, known-gathered (omega arith) k less there, jitter-small (omega arith) k less)),
         sound .channels-most,
         most,
       )
@@ -156,5 +174,7 @@ pub walking-ends : (t : View) → Sound t → (w : ℕ) → w ≡ t .wires → (
 unfolding endToEnd
 walking-ends t sound w all ends e =
     column-told channelsMost (endToEnd t) (t .channels) ends (ap length e ∙ length-column channelsMost _ (t .channels))
-    (λ k l p. entry-at channelsMost (t .channels) _ ends e (sound .channels-most) k l ∙ ap (λ (x : ℕ). gathered t (spent t) x k) all ∙ reach-end (spent t) (t .wires) 0 (t .route k) (sound .climbs k l))
+    (λ k l p. entry-at channelsMost (t .channels) _ ends e (sound .channels-most) k l
+    ∙ ap (λ (x : ℕ). gathered t (spent t) x k) all
+    ∙ reach-end (spent t) (t .wires) 0 (t .route k) (sound .climbs k l))
     (λ k l p. ap (λ (a : List ℕ). getD a k 0) e ∙ column-past channelsMost _ (t .channels) k l p)

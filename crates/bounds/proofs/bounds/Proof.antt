@@ -28,7 +28,8 @@ returns : tie.Need-returns
 returns c =
     let given = c .before .enum-told .given in
     let r = c .before .before .before .before in
-    left-unread (s r) _ _ _ (given .0 .0) (given .0 .1 .0) (given .1) (r .read .ensures .0) (r .read .ensures .1) (c .no-figures .ensures)
+    left-unread (s r) _ _ _ (given .0 .0) (given .0 .1 .0) (given .1) (r .read .ensures .0) (r .read .ensures .1)
+    (c .no-figures .ensures)
 
 enum-told-2 : tie.Need-enum-told-2
 enum-told-2 c = search needs

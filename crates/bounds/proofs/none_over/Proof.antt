@@ -56,7 +56,8 @@ returns c =
     let top = c .before .before .before .before in
     let less : w top < t top .wires = omega (arith, told top .number) in
     from-stop (loadTest (t top)) (t top .wires) (w top) less (top .loop .inv .1)
-    (load-stops (t top) (w top) (omega (arith, told top .load-told (w top) (omega arith), told top .limit-told (w top) (omega arith))))
+    (load-stops (t top) (w top)
+    (omega (arith, told top .load-told (w top) (omega arith), told top .limit-told (w top) (omega arith))))
 
 add-w : tie.Need-add-w Inv-loop μ-loop
 add-w c = search needs
@@ -75,7 +76,9 @@ loop-again c =
     )
 
 returns-2 : tie.Need-returns-2 Inv-loop μ-loop
-returns-2 c = let top = c .before in from-end (loadTest (t top)) (t top .wires) (w top) (omega (arith, told top .number)) (top .loop .inv .1)
+returns-2 c =
+    let top = c .before in
+    from-end (loadTest (t top)) (t top .wires) (w top) (omega (arith, told top .number)) (top .loop .inv .1)
 
 pub none-over-spec : {M : Type 1} → statement M
 none-over-spec =

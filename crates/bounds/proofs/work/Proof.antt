@@ -106,7 +106,9 @@ walk-requires c κs =
     let st = st f in
     record {
       read = st .pre;
-      stretch = filed-stretch (on (t st)) (part (t st)) (t st .channels) (list f) (counts f) (loads f) (filed f) (sound st .channels-most);
+      stretch =
+          filed-stretch (on (t st)) (part (t st)) (t st .channels) (list f) (counts f) (loads f) (filed f)
+          (sound st .channels-most);
       ahead-told = n .before .before .before .file-firsts .ensures;
       loads = loads-pass (t st) (loads-through (t st) (n .none-over .result) (n .none-over .ensures) (given .1));
     }
@@ -114,8 +116,10 @@ walk-requires c κs =
 returns-2 : tie.Need-returns-2
 returns-2 c =
     let n = c .before .before .before .before .before .before in
-    let pass = c .before .before .before .before .enum-told2 .given .1 in
-    (rooms-after (v n) (n .none-over .result) (n .none-over .ensures) pass (c .walk .result .answer) (c .walk .ensures .0), c .walk .ensures .1)
+    let pass = c .before .before .before .before .enum-told2 .given .1 in (
+      rooms-after (v n) (n .none-over .result) (n .none-over .ensures) pass (c .walk .result .answer) (c .walk .ensures .0),
+      c .walk .ensures .1,
+    )
 
 pub work-spec : {M : Type 1} → statement M
 work-spec =

@@ -15,7 +15,8 @@ use Rattle.bounds.proofs.filing.file.Statement.{statement}
 use Rattle.bounds.proofs.filing.file.Tie as tie
 
 abbrev Inv-loop : tie.InvT-loop
-Inv-loop table list₀ count₀ load₀ m price times hops route c₀ list count load c = (c ≤ m) × FiledBelow (viewOf table) c list count load
+Inv-loop table list₀ count₀ load₀ m price times hops route c₀ list count load c =
+    (c ≤ m) × FiledBelow (viewOf table) c list count load
 
 abbrev μ-loop : tie.MeasureT-loop
 μ-loop table list₀ count₀ load₀ m price times hops route c₀ list count load c = m - c
@@ -46,7 +47,8 @@ module _ (c : tie.In-loop Inv-loop μ-loop) where
   most : k (c .before) < channelsMost
   most = omega (arith, less, sound (c .before) .channels-most)
 
-  told-part : getD (st (c .before) .args .t .price) (k (c .before)) 0 * getD (st (c .before) .args .t .times) (k (c .before)) 0 ≡ part (t (c .before)) (k (c .before))
+  told-part : getD (st (c .before) .args .t .price) (k (c .before)) 0 * getD (st (c .before) .args .t .times) (k (c .before)) 0
+      ≡ part (t (c .before)) (k (c .before))
   told-part =
       let r = as-read (c .before) in
       ap₂ (λ (x y : ℕ). x * y)
@@ -107,7 +109,8 @@ loop-again c = (omega arith, c .file-channel .ensures)
 returns : tie.Need-returns Inv-loop μ-loop
 returns c =
     let top = c .before in
-    subst (λ (m : ℕ). FiledBelow (t top) m (top .loop .list) (top .loop .count) (top .loop .load)) (omega (arith, as-read top .channels, c .loop-test .left, top .loop .inv .0)) (top .loop .inv .1)
+    subst (λ (m : ℕ). FiledBelow (t top) m (top .loop .list) (top .loop .count) (top .loop .load))
+    (omega (arith, as-read top .channels, c .loop-test .left, top .loop .inv .0)) (top .loop .inv .1)
 
 pub file-spec : {M : Type 1} → statement M
 file-spec =

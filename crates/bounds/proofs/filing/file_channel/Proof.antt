@@ -14,7 +14,8 @@ use Rattle.bounds.proofs.filing.file_channel.Statement.{statement}
 use Rattle.bounds.proofs.filing.file_channel.Tie as tie
 
 abbrev Inv-loop : tie.InvT-loop
-Inv-loop table c hops part route list₀ count₀ load₀ i₀ list count load i = (i ≤ hops) × FiledHops (viewOf table) c i list count load
+Inv-loop table c hops part route list₀ count₀ load₀ i₀ list count load i =
+    (i ≤ hops) × FiledHops (viewOf table) c i list count load
 
 abbrev μ-loop : tie.MeasureT-loop
 μ-loop table c hops part route list₀ count₀ load₀ i₀ list count load i = hops - i
@@ -79,10 +80,12 @@ module _ (c : tie.After-wide Inv-loop μ-loop) where
   wire = c .wide .ensures ∙ st top .pre .0 .wire (i top) (omega arith)
 
   w-most : w < 64
-  w-most = hop-wire (t top) (k top) list counts loads (sound top) (less top) (i top) (short top) (top .before .loop .inv .1) w wire
+  w-most =
+      hop-wire (t top) (k top) list counts loads (sound top) (less top) (i top) (short top) (top .before .loop .inv .1) w wire
 
   place : getD counts w 0 < channelsMost
-  place = hop-place (t top) (k top) list counts loads (sound top) (less top) (i top) (short top) (top .before .loop .inv .1) w wire
+  place =
+      hop-place (t top) (k top) list counts loads (sound top) (less top) (i top) (short top) (top .before .loop .inv .1) w wire
 
   fits : channelsMost * w + getD counts w 0 < 8192
   fits = hop-fits (t top) (k top) list counts loads (sound top) (less top) (i top) (short top) (top .before .loop .inv .1) w wire
@@ -124,7 +127,12 @@ add-load : tie.Need-add-load Inv-loop μ-loop
 add-load c =
     let r = c .before .before in
     let now = top r in
-    omega (arith, hop-load (t now) (k now) (list r) (counts r) (loads r) (sound now) (less now) (i now) (short now) (now .before .loop .inv .1) (w r) (wire r), st now .pre .0 .share-told)
+    omega (
+      arith,
+      hop-load (t now) (k now) (list r) (counts r) (loads r) (sound now) (less now) (i now) (short now)
+          (now .before .loop .inv .1) (w r) (wire r),
+      st now .pre .0 .share-told,
+    )
 
 mul-load : tie.Need-mul-load Inv-loop μ-loop
 mul-load c = omega (arith, w-most (c .before .before))
@@ -142,16 +150,21 @@ loop-again : tie.Need-loop-again Inv-loop μ-loop
 loop-again c =
     let r = c .before .before in
     let now = top r in
-    let filed = hop-filed (t now) (k now) (list r) (counts r) (loads r) (sound now) (less now) (i now) (short now) (now .before .loop .inv .1) (w r) (wire r) in (
+    let filed =
+    hop-filed (t now) (k now) (list r) (counts r) (loads r) (sound now) (less now) (i now) (short now)
+    (now .before .loop .inv .1) (w r) (wire r) in (
       omega arith,
-      subst (λ (p : ℕ). FiledHops (t now) (k now) (i now + 1) (set (list r) (channelsMost * w r + getD (counts r) (w r) 0) (k now)) (set (counts r) (w r) (getD (counts r) (w r) 0 + 1)) (set (loads r) (w r) (getD (loads r) (w r) 0 + p)))
+      subst
+          (λ (p : ℕ). FiledHops (t now) (k now) (i now + 1) (set (list r) (channelsMost * w r + getD (counts r) (w r) 0) (k now))
+          (set (counts r) (w r) (getD (counts r) (w r) 0 + 1)) (set (loads r) (w r) (getD (loads r) (w r) 0 + p)))
           (sym (st now .pre .0 .share-told)) filed,
     )
 
 returns : tie.Need-returns Inv-loop μ-loop
 returns c =
     let st = c .before .before .before in
-    hops-end (viewOf (st .args .table .now)) (st .args .c) _ _ _ (c .before .loop .i) (omega (arith, st .pre .0 .number, c .loop-test .left)) (c .before .loop .inv .1)
+    hops-end (viewOf (st .args .table .now)) (st .args .c) _ _ _ (c .before .loop .i)
+    (omega (arith, st .pre .0 .number, c .loop-test .left)) (c .before .loop .inv .1)
 
 pub file-channel-spec : {M : Type 1} → statement M
 file-channel-spec =

@@ -76,7 +76,13 @@ module _ (c : tie.After-wide Inv-loop μ-loop) where
       ∙ hop-at (t top) (sound top) (st top .args .t .route) (as-read top .route) (k top) 0 (less turn) long
 
   w-most : w < wiresMost
-  w-most = omega (arith, wire, hop-below (t top .wires) 0 (t top .route (k top)) (sound top .climbs (k top) (less turn)) long, sound top .wires-most)
+  w-most =
+      omega (
+        arith,
+        wire,
+        hop-below (t top .wires) 0 (t top .route (k top)) (sound top .climbs (k top) (less turn)) long,
+        sound top .wires-most,
+      )
 
 mul-ahead : tie.Need-mul-ahead Inv-loop μ-loop
 mul-ahead c = search needs
@@ -95,13 +101,16 @@ loop-less c = search needs
 
 loop-again : tie.Need-loop-again Inv-loop μ-loop
 loop-again c =
-    let r = c in
-    (omega arith, ahead-next (t (top r)) (k (top r)) (w r) (top r .loop .ahead) (top r .loop .inv .1) (long r) (wire r) (w-most r))
+    let r = c in (
+      omega arith,
+      ahead-next (t (top r)) (k (top r)) (w r) (top r .loop .ahead) (top r .loop .inv .1) (long r) (wire r) (w-most r),
+    )
 
 returns : tie.Need-returns Inv-loop μ-loop
 returns c =
     let top = c .before in
-    subst (λ (m : ℕ). AheadBelow (t top) m (top .loop .ahead)) (omega (arith, as-read top .channels, c .loop-test .left, top .loop .inv .0)) (top .loop .inv .1)
+    subst (λ (m : ℕ). AheadBelow (t top) m (top .loop .ahead))
+    (omega (arith, as-read top .channels, c .loop-test .left, top .loop .inv .0)) (top .loop .inv .1)
 
 pub file-firsts-spec : {M : Type 1} → statement M
 file-firsts-spec =

@@ -21,7 +21,8 @@ abbrev full : View → ℕ → ℕ → ℕ
 full t w k = bounds.cost t k * t .hyper + bounds.cost t k * bounds.times t k * bounds.jitter t (bounds.known t w) w k
 
 abbrev Inv-loop : tie.InvT-loop
-Inv-loop table w count list hyper price times jitter first sum₀ j₀ sum j = (j ≤ count) × (sum ≡ tally (among (bounds.on (viewOf table) w) j) (full (viewOf table) w) (viewOf table .channels))
+Inv-loop table w count list hyper price times jitter first sum₀ j₀ sum j =
+    (j ≤ count) × (sum ≡ tally (among (bounds.on (viewOf table) w) j) (full (viewOf table) w) (viewOf table .channels))
 
 abbrev μ-loop : tie.MeasureT-loop
 μ-loop table w count list hyper price times jitter first sum₀ j₀ sum j = count - j
@@ -74,14 +75,19 @@ module _ (c : tie.After-wide Inv-loop μ-loop) where
   k = c .wide .result
 
   entry : Entry (inside top) (t top .channels) (top .loop .j) k
-  entry = subst (λ (k : ℕ). Entry (inside top) (t top .channels) (top .loop .j) k) (sym (c .wide .ensures)) (stretch top .entry (top .loop .j) (omega arith))
+  entry =
+      subst (λ (k : ℕ). Entry (inside top) (t top .channels) (top .loop .j) k) (sym (c .wide .ensures))
+      (stretch top .entry (top .loop .j) (omega arith))
 
   most : k < channelsMost
   most = omega (arith, entry .less, st top .pre .0 .channels-most)
 
   -- the share and those before it are at most all
-  next : tally (among (inside top) (top .loop .j + 1)) (full (t top) (w top)) (t top .channels) ≡ top .loop .sum + full (t top) (w top) k
-  next = among-next (inside top) (t top .channels) (top .loop .j) k entry (full (t top) (w top)) ∙ ap (λ (s : ℕ). s + full (t top) (w top) k) (sym (top .loop .inv .1))
+  next : tally (among (inside top) (top .loop .j + 1)) (full (t top) (w top)) (t top .channels)
+      ≡ top .loop .sum + full (t top) (w top) k
+  next =
+      among-next (inside top) (t top .channels) (top .loop .j) k entry (full (t top) (w top))
+      ∙ ap (λ (s : ℕ). s + full (t top) (w top) k) (sym (top .loop .inv .1))
 
   next-small : top .loop .sum + full (t top) (w top) k < 2 ^ 64
   next-small = omega (arith, next, among-most (inside top) (full (t top) (w top)) (top .loop .j + 1) (t top .channels), small top)
@@ -104,7 +110,8 @@ module _ (c : tie.After-wide Inv-loop μ-loop) where
 
   told-share : price * st top .args .hyper + price * times * jitter ≡ full (t top) (w top) k
   told-share =
-      let p : price ≡ bounds.cost (t top) k = entry-at channelsMost _ _ _ (st top .pre .1 .prices-told) (st top .pre .0 .channels-most) k (entry .less) in
+      let p : price ≡ bounds.cost (t top) k
+      = entry-at channelsMost _ _ _ (st top .pre .1 .prices-told) (st top .pre .0 .channels-most) k (entry .less) in
       ap₂ (λ (x y : ℕ). x + y)
       (ap₂ (λ (x y : ℕ). x * y) p (st top .pre .1 .hyper-told))
       (ap₂ (λ (x y : ℕ). x * y) told-part (st top .pre .1 .jitter-told k (entry .less) (entry .there)))
@@ -130,8 +137,10 @@ element-copy-out-share-3 c = most (c .before .before)
 share-requires : tie.Need-share-requires Inv-loop μ-loop
 share-requires c κs =
     let r = c .before .before .before in
-    let top = top r in
-    (omega (arith, told-part r, part-most (t top) (st top .pre .1 .sound) (k r) (entry r .less)), omega (arith, told-share r, next-small r))
+    let top = top r in (
+      omega (arith, told-part r, part-most (t top) (st top .pre .1 .sound) (k r) (entry r .less)),
+      omega (arith, told-share r, next-small r),
+    )
 
 add-sum : tie.Need-add-sum Inv-loop μ-loop
 add-sum c = let r = c .before .before .before .before in omega (arith, c .share .ensures, told-share r, next-small r)
@@ -146,7 +155,12 @@ loop-again : tie.Need-loop-again Inv-loop μ-loop
 loop-again c = let r = c .before .before .before .before in (omega arith, omega (arith, c .share .ensures, told-share r, next r))
 
 returns : tie.Need-returns Inv-loop μ-loop
-returns c = let top = c .before in top .loop .inv .1 ∙ among-end (inside top) (full (t top) (w top)) (t top .channels) (top .loop .j) (omega (arith, stretch top .all, top .loop .inv .0, c .loop-test .left)) ∙ whole top
+returns c =
+    let top = c .before in
+    top .loop .inv .1
+    ∙ among-end (inside top) (full (t top) (w top)) (t top .channels) (top .loop .j)
+    (omega (arith, stretch top .all, top .loop .inv .0, c .loop-test .left))
+    ∙ whole top
 
 pub burst-spec : {M : Type 1} → statement M
 burst-spec =

@@ -19,7 +19,8 @@ record Here (inside : ℕ → Bool) (m count late spent : ℕ) (jitter₀ end₀
   pub ends : Raised (among inside j) m spent end₀ end
 
 abbrev Inv-loop : tie.InvT-loop
-Inv-loop table w count list late spent jitter₀ end₀ first j₀ jitter end j = Here (on (viewOf table) w) (viewOf table .channels) count late spent jitter₀ end₀ jitter end j
+Inv-loop table w count list late spent jitter₀ end₀ first j₀ jitter end j =
+    Here (on (viewOf table) w) (viewOf table .channels) count late spent jitter₀ end₀ jitter end j
 
 abbrev μ-loop : tie.MeasureT-loop
 μ-loop table w count list late spent jitter₀ end₀ first j₀ jitter end j = count - j
@@ -67,7 +68,9 @@ module _ (c : tie.After-wide Inv-loop μ-loop) where
   k = c .wide .result
 
   entry : Entry (inside top) (t top .channels) (top .loop .j) k
-  entry = subst (λ (k : ℕ). Entry (inside top) (t top .channels) (top .loop .j) k) (sym (c .wide .ensures)) (stretch top .entry (top .loop .j) (omega arith))
+  entry =
+      subst (λ (k : ℕ). Entry (inside top) (t top .channels) (top .loop .j) k) (sym (c .wide .ensures))
+      (stretch top .entry (top .loop .j) (omega arith))
 
   most : k < channelsMost
   most = omega (arith, entry .less, st top .pre .0 .channels-most)
@@ -82,7 +85,11 @@ add-jitter : tie.Need-add-jitter Inv-loop μ-loop
 add-jitter c =
     let r = c .before in
     let top = top r in
-    omega (arith, raised-here (inside top) (t top .channels) _ _ (top .loop .j) (k r) (entry r) _ (top .loop .inv .jitters), st top .pre .1 .0 .fits (k r) (entry r .less))
+    omega (
+      arith,
+      raised-here (inside top) (t top .channels) _ _ (top .loop .j) (k r) (entry r) _ (top .loop .inv .jitters),
+      st top .pre .1 .0 .fits (k r) (entry r .less),
+    )
 
 element-write-jitter : tie.Need-element-write-jitter Inv-loop μ-loop
 element-write-jitter c = most (c .before)
@@ -97,7 +104,11 @@ add-end : tie.Need-add-end Inv-loop μ-loop
 add-end c =
     let r = c .before .before in
     let top = top r in
-    omega (arith, raised-here (inside top) (t top .channels) _ _ (top .loop .j) (k r) (entry r) _ (top .loop .inv .ends), st top .pre .1 .1 .fits (k r) (entry r .less))
+    omega (
+      arith,
+      raised-here (inside top) (t top .channels) _ _ (top .loop .j) (k r) (entry r) _ (top .loop .inv .ends),
+      st top .pre .1 .1 .fits (k r) (entry r .less),
+    )
 
 element-write-end : tie.Need-element-write-end Inv-loop μ-loop
 element-write-end c = most (c .before .before)
@@ -114,14 +125,19 @@ loop-again c =
     let top = top r in
     record {
       most = omega arith;
-      jitters = raised-next (inside top) (t top .channels) _ _ (top .loop .j) (k r) (entry r) _ (top .loop .inv .jitters) (omega (arith, st top .pre .1 .0 .same-length, st top .pre .0 .channels-most));
-      ends = raised-next (inside top) (t top .channels) _ _ (top .loop .j) (k r) (entry r) _ (top .loop .inv .ends) (omega (arith, st top .pre .1 .1 .same-length, st top .pre .0 .channels-most));
+      jitters =
+          raised-next (inside top) (t top .channels) _ _ (top .loop .j) (k r) (entry r) _ (top .loop .inv .jitters)
+          (omega (arith, st top .pre .1 .0 .same-length, st top .pre .0 .channels-most));
+      ends =
+          raised-next (inside top) (t top .channels) _ _ (top .loop .j) (k r) (entry r) _ (top .loop .inv .ends)
+          (omega (arith, st top .pre .1 .1 .same-length, st top .pre .0 .channels-most));
     }
 
 returns : tie.Need-returns Inv-loop μ-loop
 returns c =
     let top = c .before in
-    let all : top .loop .j ≡ count (inside top) (t top .channels) = omega (arith, stretch top .all, top .loop .inv .most, c .loop-test .left) in (
+    let all : top .loop .j ≡ count (inside top) (t top .channels)
+    = omega (arith, stretch top .all, top .loop .inv .most, c .loop-test .left) in (
       raised-end (inside top) (t top .channels) _ _ (top .loop .j) all _ (top .loop .inv .jitters),
       raised-end (inside top) (t top .channels) _ _ (top .loop .j) all _ (top .loop .inv .ends),
     )

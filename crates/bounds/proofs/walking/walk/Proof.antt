@@ -28,7 +28,8 @@ use Rattle.rules.proofs.Tables.Told.{Told, told, entry-at}
 use Rattle.bounds.proofs.Holding.{hold-is, hold-most, ahead-most}
 use Rattle.rules.proofs.Sheet.Fits.{delay-le}
 use Rattle.rules.proofs.Bounds.Sizes.{delay-up}
-use Rattle.bounds.proofs.Wires.{Walking, Loaded, loaded, late, spent, backlog-is, walking-start, walking-next, walking-ends, jitter-at, jitter-small, end-at, end-small, jitter-told, burst-lt}
+use Rattle.bounds.proofs.Wires.{Walking, Loaded, loaded, late, spent, backlog-is, walking-start, walking-next}
+use Rattle.bounds.proofs.Wires.{walking-ends, jitter-at, jitter-small, end-at, end-small, jitter-told, burst-lt}
 use Rattle.bounds.proofs.walking.walk.Statement.{statement}
 use Rattle.bounds.proofs.walking.walk.Tie as tie
 
@@ -38,10 +39,12 @@ record Here (t : View) (n : ℕ) (backlog delay jitter end : List ℕ) (w : ℕ)
   pub walking : Walking t w backlog delay jitter end
 
 abbrev Inv-loop : tie.InvT-loop
-Inv-loop table list count ahead n hyper rate prop room price times backlog₀ delay₀ jitter₀ end₀ w₀ backlog delay jitter end w = Here (viewOf table) n backlog delay jitter end w
+Inv-loop table list count ahead n hyper rate prop room price times backlog₀ delay₀ jitter₀ end₀ w₀ backlog delay jitter end w =
+    Here (viewOf table) n backlog delay jitter end w
 
 abbrev μ-loop : tie.MeasureT-loop
-μ-loop table list count ahead n hyper rate prop room price times backlog₀ delay₀ jitter₀ end₀ w₀ backlog delay jitter end w = n - w
+μ-loop table list count ahead n hyper rate prop room price times backlog₀ delay₀ jitter₀ end₀ w₀ backlog delay jitter end w =
+    n - w
 
 loop-holds : tie.Need-loop-holds Inv-loop μ-loop
 loop-holds c =
@@ -84,7 +87,8 @@ module _ (c : tie.In-loop Inv-loop μ-loop) where
   told-rate : getD (st (c .before) .args .t .rate) (w (c .before)) 0 ≡ t (c .before) .rate (w (c .before))
   told-rate = entry-at wiresMost _ _ _ (as-read (c .before) .rate) (sound (c .before) .wires-most) (w (c .before)) less
 
-  told-ahead : getD (st (c .before) .args .ahead .now) (w (c .before)) 0 ≡ aheadOf (t (c .before)) (t (c .before) .channels) (w (c .before))
+  told-ahead : getD (st (c .before) .args .ahead .now) (w (c .before)) 0
+      ≡ aheadOf (t (c .before)) (t (c .before) .channels) (w (c .before))
   told-ahead = st (c .before) .pre .ahead-told .told (w (c .before)) most
 
   rate-least : 1 ≤ getD (st (c .before) .args .t .rate) (w (c .before)) 0
@@ -187,7 +191,8 @@ module _ (c : tie.After-burst Inv-loop μ-loop) where
   bytes = own + held .hold .result
 
   bytes-fit : bytes < 2 ^ 64
-  bytes-fit = omega (arith, hold-small held, div-le-self (c .burst .result) (st top .args .t .hyper), c .burst .ensures, burst-most held)
+  bytes-fit =
+      omega (arith, hold-small held, div-le-self (c .burst .result) (st top .args .t .hyper), c .burst .ensures, burst-most held)
 
   told-backlog : bytes ≡ bounds.backlog (t top) (w top)
   told-backlog =
@@ -237,7 +242,13 @@ module _ (c : tie.Else1 Inv-loop μ-loop) where
   told-prop = entry-at wiresMost _ _ _ (as-read top2 .prop) (sound top2 .wires-most) (w top2) (less turn2)
 
   delay-lt : bounds.delay (t top2) (w top2) < 2 ^ 24
-  delay-lt = omega (arith, delay-le (t top2) (w top2) (sound top2 .rate-least (w top2) (less turn2)), passed, full top2 .room-lt (w top2))
+  delay-lt =
+      omega (
+        arith,
+        delay-le (t top2) (w top2) (sound top2 .rate-least (w top2) (less turn2)),
+        passed,
+        full top2 .room-lt (w top2),
+      )
 
 mul-slots : tie.Need-mul-slots Inv-loop μ-loop
 mul-slots c = omega (arith, most (turn2 c))
@@ -256,7 +267,10 @@ module _ (c : tie.After-slots Inv-loop μ-loop) where
   top3 = top2 (c .before)
 
   told-delay : c .slots .result ≡ bounds.delay (t top3) (w top3)
-  told-delay = c .slots .ensures ∙ ap₂ up (told-backlog (c .before .before)) (told-rate (turn2 (c .before))) ∙ sym (delay-up (t top3) (w top3))
+  told-delay =
+      c .slots .ensures
+      ∙ ap₂ up (told-backlog (c .before .before)) (told-rate (turn2 (c .before)))
+      ∙ sym (delay-up (t top3) (w top3))
 
   told-spent : c .slots .result + getD (st top3 .args .t .prop) (w top3) 0 ≡ spent (t top3) (w top3)
   told-spent = omega (arith, told-delay, told-prop (c .before))
@@ -353,10 +367,13 @@ loop-again c =
     let turn = turn2 (r .before) in
     record {
       most = omega arith;
-      search = from-next (roomTest (t top)) (t top .wires) (w top) (less turn) (top .loop .inv .search) (gate-through (room-gate (t top) (w top)) (passed (r .before)));
+      search =
+          from-next (roomTest (t top)) (t top .wires) (w top) (less turn) (top .loop .inv .search)
+          (gate-through (room-gate (t top) (w top)) (passed (r .before)));
       walking =
           walking-next (t top) (full top) (w top) _ _ _ _ (walking top) (less turn) (passed (r .before)) _ _ _ _
-          (told-backlog (r .before .before)) (told-delay r) (told-late l) (told-spent r) _ _ (c .raise .ensures .0) (c .raise .ensures .1);
+          (told-backlog (r .before .before)) (told-delay r) (told-late l) (told-spent r) _ _
+          (c .raise .ensures .0) (c .raise .ensures .1);
     }
 
 returns-2 : tie.Need-returns-2 Inv-loop μ-loop
