@@ -51,9 +51,13 @@ mul-if1-3 c = omega (arith, most (c .before))
 element-copy-out-if1-2 : tie.Need-element-copy-out-if1-2 Inv-loop μ-loop
 element-copy-out-if1-2 c = most (c .before)
 
+module _ (c : tie.After-if13 Inv-loop μ-loop) where
+  abbrev top : tie.At-loop Inv-loop μ-loop
+  top = c .before .before .before
+
 returns : tie.Need-returns Inv-loop μ-loop
 returns c =
-    let top = c .before .before .before .before in
+    let top = top (c .before) in
     let less : w top < t top .wires = omega (arith, told top .number) in
     from-stop (loadTest (t top)) (t top .wires) (w top) less (top .loop .inv .1)
     (load-stops (t top) (w top)
@@ -67,7 +71,7 @@ loop-less c = search needs
 
 loop-again : tie.Need-loop-again Inv-loop μ-loop
 loop-again c =
-    let top = c .before .before .before .before in
+    let top = top (c .before) in
     let less : w top < t top .wires = omega (arith, told top .number) in (
       omega arith,
       from-next (loadTest (t top)) (t top .wires) (w top) less (top .loop .inv .1)

@@ -30,12 +30,16 @@ module _ (c : tie.Start) where
   as-read : Told t (c .args .t)
   as-read = told t (c .args .t) (c .pre .table)
 
+module _ (c : tie.After-load) where
+  abbrev start : tie.Start
+  start = c .before .before .before .before .before
+
 file-requires : tie.Need-file-requires
-file-requires c κs = let st = c .before .before .before .before .before in (st .pre, filed-none (on (t st)) (part (t st)))
+file-requires c κs = let st = start c in (st .pre, filed-none (on (t st)) (part (t st)))
 
 module _ (c : tie.After-file) where
   abbrev st : tie.Start
-  st = c .before .before .before .before .before .before
+  st = start (c .before)
 
   abbrev list : List ℕ
   list = c .file .last .1 .1 .0
@@ -72,8 +76,15 @@ module _ (c : tie.After-file) where
 file-firsts-requires : tie.Need-file-firsts-requires
 file-firsts-requires c κs = let st = st (c .before) in (st .pre, ahead-none (t st))
 
+module _ (c : tie.After-rate2) where
+  abbrev firsts : tie.After-file-firsts
+  firsts = c .before .before
+
+  abbrev filing : tie.After-file
+  filing = firsts .before .before
+
 none-over-requires : tie.Need-none-over-requires
-none-over-requires c κs = loads-told (c .before .before .before .before)
+none-over-requires c κs = loads-told (filing c)
 
 enum-told : tie.Need-enum-told
 enum-told c = search needs
@@ -82,11 +93,8 @@ unworked-requires : tie.Need-unworked-requires
 unworked-requires c κs = search needs
 
 module _ (c : tie.After-none-over) where
-  abbrev filing : tie.After-file
-  filing = c .before .before .before .before .before
-
   abbrev v : View
-  v = t (st filing)
+  v = t (st (filing (c .before)))
 
 returns : tie.Need-returns
 returns c =
@@ -98,26 +106,30 @@ returns c =
 enum-told-2 : tie.Need-enum-told-2
 enum-told-2 c = search needs
 
+module _ (c : tie.After-ahead2) where
+  abbrev passed : tie.After-enum-told2
+  passed = c .before .before .before
+
 walk-requires : tie.Need-walk-requires
 walk-requires c κs =
-    let given = c .before .before .before .enum-told2 .given in
-    let n = c .before .before .before .before .before in
-    let f = filing n in
+    let given = passed c .enum-told2 .given in
+    let n = passed c .before .before in
+    let f = filing (n .before) in
     let st = st f in
     record {
       read = st .pre;
       stretch =
           filed-stretch (on (t st)) (part (t st)) (t st .channels) (list f) (counts f) (loads f) (filed f)
           (sound st .channels-most);
-      ahead-told = n .before .before .before .file-firsts .ensures;
+      ahead-told = firsts (n .before) .file-firsts .ensures;
       loads = loads-pass (t st) (loads-through (t st) (n .none-over .result) (n .none-over .ensures) (given .1));
     }
 
 returns-2 : tie.Need-returns-2
 returns-2 c =
-    let n = c .before .before .before .before .before .before in
-    let pass = c .before .before .before .before .enum-told2 .given .1 in (
-      rooms-after (v n) (n .none-over .result) (n .none-over .ensures) pass (c .walk .result .answer) (c .walk .ensures .0),
+    let p = passed (c .before) in
+    let n = p .before .before in (
+      rooms-after (v n) (n .none-over .result) (n .none-over .ensures) (p .enum-told2 .given .1) (c .walk .result .answer) (c .walk .ensures .0),
       c .walk .ensures .1,
     )
 

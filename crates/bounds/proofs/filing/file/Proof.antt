@@ -21,12 +21,16 @@ Inv-loop table list₀ count₀ load₀ m price times hops route c₀ list count
 abbrev μ-loop : tie.MeasureT-loop
 μ-loop table list₀ count₀ load₀ m price times hops route c₀ list count load c = m - c
 
+module _ (c : tie.After-route Inv-loop μ-loop) where
+  abbrev start : tie.Start Inv-loop μ-loop
+  start = c .before .before .before .before .before
+
 loop-holds : tie.Need-loop-holds Inv-loop μ-loop
-loop-holds c = (omega arith, c .before .before .before .before .before .pre .1)
+loop-holds c = (omega arith, start c .pre .1)
 
 module _ (c : tie.At-loop Inv-loop μ-loop) where
   abbrev st : tie.Start Inv-loop μ-loop
-  st = c .before .before .before .before .before .before
+  st = start (c .before)
 
   abbrev t : View
   t = viewOf (st .args .table .now)
@@ -83,9 +87,10 @@ mul-file-channel-3 c =
 
 file-channel-requires : tie.Need-file-channel-requires Inv-loop μ-loop
 file-channel-requires c κs =
-    let i = c .before .before .before .before .before in
+    let wide = c .before .before .before .before in
+    let i = wide .before in
     let top = i .before in
-    let hops = c .before .before .before .before .wide .ensures ∙ told-hops i in (
+    let hops = wide .wide .ensures ∙ told-hops i in (
       record {
         sound = sound top;
         less = less i;

@@ -134,16 +134,20 @@ mul-share-3 c = omega (arith, most (c .before .before))
 element-copy-out-share-3 : tie.Need-element-copy-out-share-3 Inv-loop μ-loop
 element-copy-out-share-3 c = most (c .before .before)
 
+module _ (c : tie.After-share-arg3 Inv-loop μ-loop) where
+  abbrev taken : tie.After-wide Inv-loop μ-loop
+  taken = c .before .before .before
+
 share-requires : tie.Need-share-requires Inv-loop μ-loop
 share-requires c κs =
-    let r = c .before .before .before in
+    let r = taken c in
     let top = top r in (
       omega (arith, told-part r, part-most (t top) (st top .pre .1 .sound) (k r) (entry r .less)),
       omega (arith, told-share r, next-small r),
     )
 
 add-sum : tie.Need-add-sum Inv-loop μ-loop
-add-sum c = let r = c .before .before .before .before in omega (arith, c .share .ensures, told-share r, next-small r)
+add-sum c = let r = taken (c .before) in omega (arith, c .share .ensures, told-share r, next-small r)
 
 add-j : tie.Need-add-j Inv-loop μ-loop
 add-j c = search needs
@@ -152,7 +156,7 @@ loop-less : tie.Need-loop-less Inv-loop μ-loop
 loop-less c = search needs
 
 loop-again : tie.Need-loop-again Inv-loop μ-loop
-loop-again c = let r = c .before .before .before .before in (omega arith, omega (arith, c .share .ensures, told-share r, next r))
+loop-again c = let r = taken (c .before) in (omega arith, omega (arith, c .share .ensures, told-share r, next r))
 
 returns : tie.Need-returns Inv-loop μ-loop
 returns c =

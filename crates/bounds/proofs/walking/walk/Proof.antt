@@ -46,9 +46,13 @@ abbrev μ-loop : tie.MeasureT-loop
 μ-loop table list count ahead n hyper rate prop room price times backlog₀ delay₀ jitter₀ end₀ w₀ backlog delay jitter end w =
     n - w
 
+module _ (c : tie.After-times Inv-loop μ-loop) where
+  abbrev start : tie.Start Inv-loop μ-loop
+  start = c .before .before .before .before .before .before
+
 loop-holds : tie.Need-loop-holds Inv-loop μ-loop
 loop-holds c =
-    let st = c .before .before .before .before .before .before in
+    let st = start c in
     record {
       most = omega arith;
       search = from-start (roomTest (viewOf (st .args .table .now))) (viewOf (st .args .table .now) .wires);
@@ -57,7 +61,7 @@ loop-holds c =
 
 module _ (c : tie.At-loop Inv-loop μ-loop) where
   abbrev st : tie.Start Inv-loop μ-loop
-  st = c .before .before .before .before .before .before .before
+  st = start (c .before)
 
   abbrev t : View
   t = viewOf (st .args .table .now)
@@ -157,9 +161,13 @@ module _ (c : tie.After-hold Inv-loop μ-loop) where
   burst-most : bounds.burst (t (top0 c)) (bounds.known (t (top0 c)) (w (top0 c))) (w (top0 c)) < 2 ^ 63
   burst-most = burst-lt (t (top0 c)) (full (top0 c)) (w (top0 c)) _ _ _ _ (walking (top0 c)) (less (turn0 c))
 
+module _ (c : tie.After-jitter Inv-loop μ-loop) where
+  abbrev held0 : tie.After-hold Inv-loop μ-loop
+  held0 = c .before .before .before .before
+
 burst-requires : tie.Need-burst-requires Inv-loop μ-loop
 burst-requires c κs =
-    let h = c .before .before .before .before in
+    let h = held0 c in
     let turn = turn0 h in
     let top = top0 h in
     let inside : w top ≤ t top .wires = omega (arith, less turn) in (
@@ -176,7 +184,7 @@ burst-requires c κs =
 
 module _ (c : tie.After-burst Inv-loop μ-loop) where
   abbrev held : tie.After-hold Inv-loop μ-loop
-  held = c .before .before .before .before .before
+  held = held0 (c .before)
 
   abbrev turn : tie.In-loop Inv-loop μ-loop
   turn = turn0 held
@@ -302,15 +310,6 @@ element-copy-out-raise c = most (turn2 (c .before))
 less-one-requires : tie.Need-less-one-requires Inv-loop μ-loop
 less-one-requires c κs = search needs
 
-mul-raise-2 : tie.Need-mul-raise-2 Inv-loop μ-loop
-mul-raise-2 c = omega (arith, most (turn2 (c .before .before .before)))
-
-array-read-raise : tie.Need-array-read-raise Inv-loop μ-loop
-array-read-raise c = most (turn2 (c .before .before .before))
-
-add-raise : tie.Need-add-raise Inv-loop μ-loop
-add-raise c = let r = c .before .before in omega (arith, told-spent r, spent-lt r)
-
 module _ (c : tie.After-less-one Inv-loop μ-loop) where
   abbrev r : tie.After-slots Inv-loop μ-loop
   r = c .before .before
@@ -318,9 +317,22 @@ module _ (c : tie.After-less-one Inv-loop μ-loop) where
   told-late : c .less-one .result ≡ late (t (top3 r)) (w (top3 r))
   told-late = omega (arith, c .less-one .ensures, told-delay r)
 
+mul-raise-2 : tie.Need-mul-raise-2 Inv-loop μ-loop
+mul-raise-2 c = omega (arith, most (turn2 (r c .before)))
+
+array-read-raise : tie.Need-array-read-raise Inv-loop μ-loop
+array-read-raise c = most (turn2 (r c .before))
+
+add-raise : tie.Need-add-raise Inv-loop μ-loop
+add-raise c = omega (arith, told-spent (r c), spent-lt (r c))
+
+module _ (c : tie.After-end Inv-loop μ-loop) where
+  abbrev lessened : tie.After-less-one Inv-loop μ-loop
+  lessened = c .before .before
+
 raise-requires : tie.Need-raise-requires Inv-loop μ-loop
 raise-requires c κs =
-    let l = c .before .before in
+    let l = lessened c in
     let r = r l in
     let top = top3 r in
     let turn = turn2 (r .before) in
@@ -354,14 +366,14 @@ raise-requires c κs =
     )
 
 add-w : tie.Need-add-w Inv-loop μ-loop
-add-w c = let r = r (c .before .before .before) in omega (arith, most (turn2 (r .before)))
+add-w c = let r = r (lessened (c .before)) in omega (arith, most (turn2 (r .before)))
 
 loop-less : tie.Need-loop-less Inv-loop μ-loop
 loop-less c = search needs
 
 loop-again : tie.Need-loop-again Inv-loop μ-loop
 loop-again c =
-    let l = c .before .before .before in
+    let l = lessened (c .before) in
     let r = r l in
     let top = top3 r in
     let turn = turn2 (r .before) in
