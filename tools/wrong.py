@@ -163,7 +163,7 @@ def changes_in(file, before, after):
 
 
 class Sharing:
-    """Which wrong programs of a crate may share a run: no fact of one can come from what another changes."""
+    """Which wrong programs of a crate may share a run: no fact of one comes from what another changes."""
 
     def __init__(self, crate):
         self.crate, self.known, self.rested = crate, {}, {}
@@ -212,9 +212,28 @@ class Sharing:
                 return f"its fact, at {error.file}:{error.line}, does not rest on {change.name}"
         for other in others:
             for change in self.changes(other) - {None}:
-                if change[:2] in rests and not self.field_apart(own, change, error):
+                if change.file == "src":
+                    # A function's body is seen by its own proof alone: any other goes by its contract.
+                    if self.proves(error, change):
+                        return f"its fact stands in {change.detail}, whose function {other.label} changes"
+                elif change[:2] in rests and not self.field_apart(own, change, error) and not self.seen_apart(wrong, error, other):
                     return f"its fact rests on {change.name} too, which {other.label} changes"
         return None
+
+    @cached_property
+    def seen_alone(self):
+        """By label the declarations that failed when a wrong program was tried alone: must-fail/alone.txt, by tools/edits."""
+        page, found = self.crate / "must-fail/alone.txt", {}
+        for line in text(page).splitlines() if page.is_file() else ():
+            label, file, *names = line.split()
+            found.setdefault(label, set()).update((file, name) for name in names)
+        return found
+
+    def seen_apart(self, wrong, error, other):
+        """Whether the declaration of an error failed with this wrong program tried alone, and not with the other."""
+        d = sources.at(text(self.crate / error.file), error.line) if error.file.endswith(".antt") else None
+        own, others = self.seen_alone.get(wrong.label, ()), self.seen_alone.get(other.label)
+        return bool(d and others and (error.file, d.name) in own and (error.file, d.name) not in others)
 
     def field_apart(self, own, other, error):
         """Fields of records are apart where the entry in which the fact fails names the own ones and not the other."""

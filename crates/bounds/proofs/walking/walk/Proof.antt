@@ -229,7 +229,7 @@ returns : tie.Need-returns Inv-loop μ-loop
 returns c =
     let r = c .before .before in
     let top = top r in
-    left-refused (t top) _ 13 (w top) (c .unworked .ensures)
+    left-refused (t top) (c .unworked .result) 13 (w top) (c .unworked .ensures)
     (from-stop (roomTest (t top)) (t top .wires) (w top) (less (turn r)) (top .loop .inv .search)
     (room-stops (t top) (w top) (omega (arith, told-backlog r, told-room r, c .before .if1 .taken))))
 
