@@ -79,8 +79,8 @@ walking-start t =
 
 -- entries of a column that are raised
 raised-column : (places m d : ℕ) (f g : ℕ → ℕ) (inside : ℕ → Bool) (before after : List ℕ) → m ≤ places
-    → before ≡ column places m f
-    → Raised inside m d before after → ((k : ℕ) → k < m → g k ≡ f k + only (inside k) d) → after ≡ column places m g
+    → before ≡ column places m f → Raised inside m d before after
+    → ((k : ℕ) → k < m → g k ≡ f k + only (inside k) d) → after ≡ column places m g
 raised-column places m d f g inside before after h e r next =
     let at : (k : ℕ) → getD before k 0 ≡ getD (column places m f) k 0 = λ k. ap (λ (a : List ℕ). getD a k 0) e in
     column-told places g m after (r .same-length ∙ ap length e ∙ length-column places f m)

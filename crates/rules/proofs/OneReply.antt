@@ -9,6 +9,7 @@ use Rattle.rules.proofs.constants.Kinds as constants-kinds
 use Rattle.rules.proofs.constants.Reads as constants-reads
 
 pub constants-one :
-    (κs : Lfts 0) (a : ArgsD constants.signature κs) (r r' : ResD constants.signature κs) (e e' : AtExit (endedOf 0 constants-kinds.ps constants-kinds.r) κs) →
+    (κs : Lfts 0) (a : ArgsD constants.signature κs) (r r' : ResD constants.signature κs)
+    (e e' : AtExit (endedOf 0 constants-kinds.ps constants-kinds.r) κs) →
     constants-reads.Post κs a r e → constants-reads.Post κs a r' e' → r ≡ r'
 constants-one κs a r r' e e' p q = p ∙ sym q

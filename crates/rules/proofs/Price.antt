@@ -43,7 +43,9 @@ unfolding lastBytes
 last-large row rest h l = rw (ne-eqb rest 0 (λ (e : rest ≡ 0). omega arith), le-leb (row .least) rest l)
 
 -- a frame holds its remainder with the overhead, and is no smaller than the smallest
-last-some : (row : Row) → Fair row → (rest : ℕ) → 1 ≤ rest → (smallFrame ≤ lastBytes row rest) × (rest + row .overhead ≤ lastBytes row rest) × ((lastBytes row rest ≡ smallFrame) ⊎ (lastBytes row rest ≡ rest + row .overhead))
+last-some : (row : Row) → Fair row → (rest : ℕ) → 1 ≤ rest
+    → (smallFrame ≤ lastBytes row rest) × (rest + row .overhead ≤ lastBytes row rest)
+    × ((lastBytes row rest ≡ smallFrame) ⊎ (lastBytes row rest ≡ rest + row .overhead))
 last-some row f rest h =
     elim (decLe (row .least) rest) [
       | yes l ↦
@@ -65,7 +67,8 @@ last-grows row f (suc a) b l =
     let big = last-some row f b (omega arith) in
     elim (last-some row f (suc a) (omega arith) .2) [ inl e ↦ omega (arith, e, big .0) | inr e ↦ omega (arith, e, big .1) ]
 
-price-is : (framing payload : ℕ) → price framing payload ≡ payload / rowOf framing .most * fullFrame + lastBytes (rowOf framing) (payload % rowOf framing .most)
+price-is : (framing payload : ℕ) → price framing payload
+    ≡ payload / rowOf framing .most * fullFrame + lastBytes (rowOf framing) (payload % rowOf framing .most)
 unfolding price
 price-is framing payload = refl
 
@@ -135,7 +138,12 @@ frames-price framing payload =
     let row = rowOf framing in
     let n = payload / row .most in
     let r = payload % row .most in
-    omega (arith, total-append (λ (x : ℕ). x) (replicate n fullFrame) (lastFrame row r), total-replicate n fullFrame, total-last row r)
+    omega (
+      arith,
+      total-append (λ (x : ℕ). x) (replicate n fullFrame) (lastFrame row r),
+      total-replicate n fullFrame,
+      total-last row r,
+    )
 
 -- every frame of a list
 abbrev pub Every : (ℕ → Type 0) → List ℕ → Type 0
@@ -173,11 +181,14 @@ pub ask-framing : (framing payload : ℕ) → 2 ≤ framing → askPrice framing
 unfolding askPrice test
 ask-framing framing payload h = rw (le-ltb framing 2 h)
 
-pub ask-payload : (framing payload : ℕ) → framing ≤ 1 → (payload < 1) ⊎ (payloadMost < payload) → askPrice framing payload ≡ refused 6 0
+pub ask-payload : (framing payload : ℕ) → framing ≤ 1 → (payload < 1) ⊎ (payloadMost < payload)
+    → askPrice framing payload ≡ refused 6 0
 unfolding askPrice test
 ask-payload framing payload h (inl l) = rw (lt-ltb framing 2 (omega arith), lt-leb 1 payload l)
-ask-payload framing payload h (inr l) = rw (lt-ltb framing 2 (omega arith), le-leb 1 payload (omega arith), lt-leb payload payloadMost l)
+ask-payload framing payload h (inr l) =
+    rw (lt-ltb framing 2 (omega arith), le-leb 1 payload (omega arith), lt-leb payload payloadMost l)
 
-pub ask-granted : (framing payload : ℕ) → framing ≤ 1 → 1 ≤ payload → payload ≤ payloadMost → askPrice framing payload ≡ granted (price framing payload ∷ [])
+pub ask-granted : (framing payload : ℕ) → framing ≤ 1 → 1 ≤ payload → payload ≤ payloadMost
+    → askPrice framing payload ≡ granted (price framing payload ∷ [])
 unfolding askPrice test
 ask-granted framing payload h l m = rw (lt-ltb framing 2 (omega arith), le-leb 1 payload l, le-leb payload payloadMost m)

@@ -18,7 +18,8 @@ use Rattle.rules.specs.Sheet.{askWire, askChannel}
 use Rattle.rules.specs.Judgement.{judge, buffer}
 use Rattle.rules.specs.Machine.{Frame, Releases, Keeps, Holding, Run, Allowed, nobody, AnyOrder, message, delivered, unsent}
 use Rattle.rules.specs.Cases.{Case, Figures, Same, Hold, all, _and_, cases, evaluate, MarkedCases}
-use Rattle.rules.specs.Incident.{PrefixesRefused, ExtensionsRefused, LongerAlike, SameView, OneString, LeavesNoSheet, GivesBack}
+use Rattle.rules.specs.Incident.{PrefixesRefused, ExtensionsRefused, LongerAlike}
+use Rattle.rules.specs.Incident.{SameView, OneString, LeavesNoSheet, GivesBack}
 use Rattle.rules.specs.Promise.{WirePromised, ChannelPromised, Promised, Promise, PromiseAlone}
 use Rattle.rules.proofs.Bounds.Judgement.{judge-refused}
 use Rattle.rules.proofs.Machine.Orders.{count, among-before}
@@ -49,9 +50,11 @@ read back s lent len e released held run promised =
     λ w l. promised .wires w (omega arith) in
     let channel : (k : ℕ) → k < t .channels → ChannelPromised s (take len (buffer s lent)) released held run k =
     λ k l. promised .channels k (omega arith) in
-    let backlog-is : (w : ℕ) (l : w < t .wires) → wire w l .backlog ≡ backlog t w = λ w l. cc (wire w l .asked, asked .wire w l) in
+    let backlog-is : (w : ℕ) (l : w < t .wires) → wire w l .backlog ≡ backlog t w
+    = λ w l. cc (wire w l .asked, asked .wire w l) in
     let delay-is : (w : ℕ) (l : w < t .wires) → wire w l .delay ≡ delay t w = λ w l. cc (wire w l .asked, asked .wire w l) in
-    let end-is : (k : ℕ) (l : k < t .channels) → channel k l .delay ≡ endToEnd t k = λ k l. cc (channel k l .asked, asked .channel k l) in
+    let end-is : (k : ℕ) (l : k < t .channels) → channel k l .delay ≡ endToEnd t k
+    = λ k l. cc (channel k l .asked, asked .channel k l) in
     record {
       backlogs = λ w slot l. omega (arith, wire w l .backlog-most slot, backlog-is w l);
       rooms = λ w slot l. omega (arith, wire w l .backlog-most slot, wire w l .within-room);
@@ -132,7 +135,8 @@ pub one-string-read :
     OneString → (s t : List ℕ) → Bytes s → Bytes t → reading s ≡ granted [] → reading t ≡ granted [] → viewOf s ≡ viewOf t → s ≡ t
 one-string-read h s t a b p q e =
     h s t a b p q
-    (same-view-built (viewOf s) (viewOf t) (ap (λ (v : View). v .hyper) e) (ap (λ (v : View). v .wires) e) (ap (λ (v : View). v .channels) e)
+    (same-view-built (viewOf s) (viewOf t) (ap (λ (v : View). v .hyper) e) (ap (λ (v : View). v .wires) e)
+    (ap (λ (v : View). v .channels) e)
     (λ w l. (ap (λ (v : View). v .rate w) e, ap (λ (v : View). v .prop w) e, ap (λ (v : View). v .room w) e))
     (λ k l. (
       ap (λ (v : View). v .framing k) e,
@@ -183,7 +187,8 @@ same-figures a b e =
 figures-read : (cs : List Case) → Hold cs → map (λ (c : Case). evaluate (c .question)) cs ≡ map (λ (c : Case). c .figures) cs
 figures-read [] all = refl
 figures-read (c ∷ cs) (e and rest) =
-    ap₂ (λ (x : Figures) (xs : List Figures). x ∷ xs) (same-figures (evaluate (c .question)) (c .figures) e) (figures-read cs rest)
+    ap₂ (λ (x : Figures) (xs : List Figures). x ∷ xs)
+    (same-figures (evaluate (c .question)) (c .figures) e) (figures-read cs rest)
 
 pub cases-read : MarkedCases → map (λ (c : Case). evaluate (c .question)) cases ≡ map (λ (c : Case). c .figures) cases
 cases-read h = figures-read cases h

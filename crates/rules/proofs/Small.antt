@@ -129,7 +129,8 @@ module _ {P : List ℕ → Type 0} (s : List ℕ) where
   unfolding fillingTests
   fine-filling = fine-test _ 11 0 (omega arith)
 
-fine-bounds : {P : List ℕ → Type 0} (t : View) → t .wires ≤ wiresMost → t .channels ≤ channelsMost → Fine P (λ rest. boundsTests t (deadlineTests t rest))
+fine-bounds : {P : List ℕ → Type 0} (t : View) → t .wires ≤ wiresMost → t .channels ≤ channelsMost
+    → Fine P (λ rest. boundsTests t (deadlineTests t rest))
 unfolding boundsTests loadTest roomTest deadlineTest
 fine-bounds t a b rest h =
     fine-each (loadTest t) 0 (t .wires) (λ w l. fine-test _ 12 w (omega arith)) _

@@ -79,7 +79,8 @@ module _ (n p : ℕ) where
   pub between-gate : (low x high : ℕ) → Gate ((low ≤ x) × (x ≤ high)) (test (between low x high) n p)
   between-gate low x high = both-gate (leb low x) (leb x high) (le-gate low x) (le-gate x high)
 
-pub each-through : (f : ℕ → Reply → Reply) (a left : ℕ) → ((i : ℕ) → a ≤ i → i < a + left → Through (f i)) → Through (each f a left)
+pub each-through : (f : ℕ → Reply → Reply) (a left : ℕ) → ((i : ℕ) → a ≤ i → i < a + left → Through (f i))
+    → Through (each f a left)
 unfolding each
 each-through f a zero h rest = refl
 each-through f a (suc left) h rest =

@@ -109,8 +109,10 @@ pub record Run (t : View) (released : Releases) (held : Holding) : Type 0 where
   pub gone : Gone
   pub empty : (w : ℕ) → w < t .wires → queue w 0 ≡ []
   pub any-order : (w slot : ℕ) → w < t .wires → AnyOrder (due t released gone w slot) (arrived w slot)
-  pub sends : (w slot : ℕ) → w < t .wires → gone w slot ≡ sent (sending (t .rate w) (held w slot)) (joined (queue w slot) (arrived w slot))
-  pub keeps : (w slot : ℕ) → w < t .wires → queue w (suc slot) ≡ kept (sending (t .rate w) (held w slot)) (joined (queue w slot) (arrived w slot))
+  pub sends : (w slot : ℕ) → w < t .wires
+      → gone w slot ≡ sent (sending (t .rate w) (held w slot)) (joined (queue w slot) (arrived w slot))
+  pub keeps : (w slot : ℕ) → w < t .wires
+      → queue w (suc slot) ≡ kept (sending (t .rate w) (held w slot)) (joined (queue w slot) (arrived w slot))
 
 -- Request Q-4's three conditions on whoever runs the cabins; where listed frames reach an empty queue, any number of slots
 -- from 0 to K may be chosen.
@@ -173,7 +175,8 @@ holding (x ∷ queue) full chosen left = left
 unfoldable pub step : View → Releases → Order → Choice → ℕ → State → State
 step t released order choice slot state =
     let full = listed (λ w. joined (queueIn state w) (arrivals t released order slot state w)) (t .wires) in
-    let holds = listed (λ w. holding (queueIn state w) (getD full w []) (cut (choice slot w) (K t w)) (heldIn state w - 1)) (t .wires) in
+    let holds =
+    listed (λ w. holding (queueIn state w) (getD full w []) (cut (choice slot w) (K t w)) (heldIn state w - 1)) (t .wires) in
     record {
       queues = listed (λ w. kept (sending (t .rate w) (getD holds w 0)) (getD full w [])) (t .wires);
       holds = holds;

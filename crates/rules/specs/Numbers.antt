@@ -105,4 +105,7 @@ sheetLongest = 834
 -- All but the rates, in the order above.
 abbrev pub numbers : List ℕ
 numbers =
-    slotNs ∷ hyperBits ∷ hyperMost ∷ wiresBits ∷ wiresMost ∷ channelsBits ∷ channelsMost ∷ headBits ∷ rateBits ∷ propBits ∷ roomBits ∷ wireBits ∷ framingBits ∷ payloadBits ∷ payloadMost ∷ periodBits ∷ deadlineBits ∷ hopsBits ∷ hopsMost ∷ routesMost ∷ fixedBits ∷ hopBits ∷ tableLongest ∷ sheetHeadBits ∷ backlogBits ∷ delayBits ∷ figuresBits ∷ endBits ∷ sheetLongest ∷ []
+    slotNs ∷ hyperBits ∷ hyperMost ∷ wiresBits ∷ wiresMost ∷ channelsBits ∷ channelsMost ∷ headBits ∷ rateBits ∷ propBits
+    ∷ roomBits ∷ wireBits ∷ framingBits ∷ payloadBits ∷ payloadMost ∷ periodBits ∷ deadlineBits ∷ hopsBits ∷ hopsMost
+    ∷ routesMost ∷ fixedBits ∷ hopBits ∷ tableLongest ∷ sheetHeadBits ∷ backlogBits ∷ delayBits ∷ figuresBits
+    ∷ endBits ∷ sheetLongest ∷ []

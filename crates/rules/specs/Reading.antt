@@ -9,7 +9,8 @@ use Rattle.rules.specs.Words.{up, between}
 use Rattle.rules.specs.Numbers.{rates, hyperMost, wiresMost, channelsMost, headBits, wireBits, fixedBits, hopBits}
 use Rattle.rules.specs.Replies.{Reply, granted, test, each}
 use Rattle.rules.specs.Channel.{valueTests, routeTests}
-use Rattle.rules.specs.Table.{hyperOf, wiresOf, channelsOf, wireAt, codeOf, channelAt, payloadAt, periodAt, hopsAt, routeAt, endOf, fillingOf}
+use Rattle.rules.specs.Table.{hyperOf, wiresOf, channelsOf, wireAt, codeOf, channelAt}
+use Rattle.rules.specs.Table.{payloadAt, periodAt, hopsAt, routeAt, endOf, fillingOf}
 
 -- The three header fields are read whole before 2, 3, 4. 1: a field needed next goes past the end. 2: H is 0 or over
 -- 12,500,000. 3: wires 0 or over 64. 4: channels 0 or over 128.

@@ -9,7 +9,8 @@ use Rattle.rules.specs.declared.Figures.{Figures}
 use Rattle.rules.specs.declared.Written.{Written}
 use Rattle.rules.specs.declared.Written.the-variants.{Length, Nothing}
 use Rattle.rules.specs.Words.{up, between, entries, every}
-use Rattle.rules.specs.Numbers.{wiresBits, wiresMost, channelsBits, channelsMost, sheetHeadBits, backlogBits, delayBits, figuresBits, endBits}
+use Rattle.rules.specs.Numbers.{wiresBits, wiresMost, channelsBits, channelsMost}
+use Rattle.rules.specs.Numbers.{sheetHeadBits, backlogBits, delayBits, figuresBits, endBits}
 use Rattle.rules.specs.Replies.{Reply, granted, test}
 use Rattle.rules.specs.Table.{fillingOf}
 

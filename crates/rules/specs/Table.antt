@@ -5,7 +5,8 @@ use Prim.Native.Nat.{ℕ, zero, suc, _+_, _-_, _*_}
 use lib.ListN.{length, getD}
 use lib.Dec.{eqb}
 use Rattle.bits.specs.Field.{field}
-use Rattle.rules.specs.Numbers.{rates, hyperBits, wiresBits, channelsBits, headBits, rateBits, propBits, roomBits, wireBits, framingBits, payloadBits, periodBits, deadlineBits, hopsBits, fixedBits, hopBits}
+use Rattle.rules.specs.Numbers.{rates, hyperBits, wiresBits, channelsBits, headBits, rateBits, propBits, roomBits, wireBits}
+use Rattle.rules.specs.Numbers.{framingBits, payloadBits, periodBits, deadlineBits, hopsBits, fixedBits, hopBits}
 
 -- hyperperiod H, wires n, channels m
 unfoldable pub hyperOf : List ℕ → ℕ

@@ -129,7 +129,8 @@ returns-2 : tie.Need-returns-2
 returns-2 c =
     let p = passed (c .before) in
     let n = p .before .before in (
-      rooms-after (v n) (n .none-over .result) (n .none-over .ensures) (p .enum-told2 .given .1) (c .walk .result .answer) (c .walk .ensures .0),
+      rooms-after (v n) (n .none-over .result) (n .none-over .ensures) (p .enum-told2 .given .1)
+          (c .walk .result .answer) (c .walk .ensures .0),
       c .walk .ensures .1,
     )
 

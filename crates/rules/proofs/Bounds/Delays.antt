@@ -13,7 +13,8 @@ use Rattle.rules.specs.Words.{sum, up}
 use Rattle.rules.specs.Price.{smallFrame}
 use Rattle.rules.specs.Table.{View}
 use Rattle.rules.specs.Office.{first, K}
-use Rattle.rules.specs.Bounds.{cost, on, carries, along, jitter, shareOf, burst, backlogAfter, delayAfter, delaysBelow, known, backlog, delay}
+use Rattle.rules.specs.Bounds.{cost, on, carries, along, jitter, shareOf, burst}
+use Rattle.rules.specs.Bounds.{backlogAfter, delayAfter, delaysBelow, known, backlog, delay}
 use Rattle.rules.specs.Sound.{Sound, Climbs}
 use Rattle.rules.proofs.Sums.{bool-cases, sum-has, sum-none, sum-same, none-some}
 use Rattle.rules.proofs.Price.{price-least}
@@ -64,7 +65,8 @@ unfolding delay delayAfter backlogAfter burst shareOf
 delay-least t sound w k lw lk there =
     let share : cost t k * t .hyper ≤ shareOf t (known t w) w k = rw there (omega arith) in
     let dear : smallFrame * t .hyper ≤ cost t k * t .hyper = mul-le-mul-right (t .hyper) (prices-least t sound k lk) in
-    let some : 1 ≤ burst t (known t w) w / t .hyper = le-div-iff-mul-le (sound .hyper-least) .1 (omega (arith, sum-has (shareOf t (known t w) w) (t .channels) k lk)) in
+    let some : 1 ≤ burst t (known t w) w / t .hyper
+    = le-div-iff-mul-le (sound .hyper-least) .1 (omega (arith, sum-has (shareOf t (known t w) w) (t .channels) k lk)) in
     le-div-iff-mul-le (sound .rate-least w lw) .1 (omega (arith, some, sound .rate-least w lw))
 
 -- A wire that carries channels has K more delay than its channels' shares alone give it.

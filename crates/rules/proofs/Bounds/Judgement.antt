@@ -8,8 +8,10 @@ use Rattle.rules.specs.Replies.{Reply, granted, refused, test}
 use Rattle.rules.specs.Table.{View, viewOf}
 use Rattle.rules.specs.Reading.{readingTests, reading}
 use Rattle.rules.specs.Bounds.{load, backlog, endToEnd}
-use Rattle.rules.specs.Judgement.{loadTest, roomTest, deadlineTest, loadTests, boundsTests, deadlineTests, bounding, lengthOf, judge}
-use Rattle.rules.proofs.Tests.{Through, Stops, Gate, through, stops, gate-granted, gate-refused, gate-through, gate-iff, gate-then, le-gate, all-gate}
+use Rattle.rules.specs.Judgement.{loadTest, roomTest, deadlineTest, loadTests}
+use Rattle.rules.specs.Judgement.{boundsTests, deadlineTests, bounding, lengthOf, judge}
+use Rattle.rules.proofs.Tests.{Through, Stops, Gate, through, stops, gate-granted, gate-refused}
+use Rattle.rules.proofs.Tests.{gate-through, gate-iff, gate-then, le-gate, all-gate}
 use Rattle.rules.specs.Sound.{Sound}
 use Rattle.rules.proofs.Tables.Search.{le-stops}
 use Rattle.rules.proofs.Tables.Laws.{Passes, passes-sound, reading-gate, reading-refused, reading-passes, passes-reading}
@@ -58,7 +60,9 @@ module _ (t : View) where
 
   -- where 12 passes, no wire is over its load
   pub loads-pass : Through (loadTests t) → (w : ℕ) → w < t .wires → load t w ≤ t .rate w * t .hyper
-  loads-pass h = gate-granted (all-gate (λ w. load t w ≤ t .rate w * t .hyper) (loadTest t) load-gate (t .wires)) (granted []) [] (h (granted [])) .0
+  loads-pass h =
+      gate-granted (all-gate (λ w. load t w ≤ t .rate w * t .hyper) (loadTest t) load-gate (t .wires))
+      (granted []) [] (h (granted [])) .0
 
   pub carried-gate : Gate (Carried t) (boundsTests t)
   unfolding boundsTests
@@ -105,7 +109,8 @@ module _ (s : List ℕ) where
     judge-unbounded n p e = gate-refused bounding-gate [] n p e _
 
     module _ (e : bounding s ≡ granted []) where
-      judge-after : judge s lent ≡ deadlineTests (viewOf s) (test (leb (lengthOf (viewOf s)) lent) 15 0 (granted (lengthOf (viewOf s) ∷ [])))
+      judge-after : judge s lent
+          ≡ deadlineTests (viewOf s) (test (leb (lengthOf (viewOf s)) lent) 15 0 (granted (lengthOf (viewOf s) ∷ [])))
       unfolding judge
       judge-after = gate-through bounding-gate (bounding-granted e) _
 
@@ -115,7 +120,8 @@ module _ (s : List ℕ) where
       pub judge-short : Through (deadlineTests (viewOf s)) → lent < lengthOf (viewOf s) → judge s lent ≡ refused 15 0
       judge-short h l = judge-after ∙ h _ ∙ le-stops 15 0 (lengthOf (viewOf s)) lent l _
 
-      pub judge-fits : Through (deadlineTests (viewOf s)) → lengthOf (viewOf s) ≤ lent → judge s lent ≡ granted (lengthOf (viewOf s) ∷ [])
+      pub judge-fits : Through (deadlineTests (viewOf s)) → lengthOf (viewOf s) ≤ lent
+          → judge s lent ≡ granted (lengthOf (viewOf s) ∷ [])
       judge-fits h l = judge-after ∙ h _ ∙ gate-through (le-gate 15 0 (lengthOf (viewOf s)) lent) l _
 
 -- all tests of the judgement

@@ -33,7 +33,8 @@ module _ (f : ℕ → ℕ) where
   reach-above : (n least w : ℕ) (xs : List ℕ) → Climbs n least xs → w ≤ least → reach f xs w ≡ 0
   unfolding reach total
   reach-above n least w [] c l = refl
-  reach-above n least w (x ∷ xs) c l = reach-out x w xs (omega (arith, c .1)) ∙ reach-above n (suc x) w xs (c .2) (omega (arith, c .1))
+  reach-above n least w (x ∷ xs) c l =
+      reach-out x w xs (omega (arith, c .1)) ∙ reach-above n (suc x) w xs (c .2) (omega (arith, c .1))
 
   -- at the wires of a route, it is what the definitions go by
   pub along-reach : (n least w : ℕ) (xs : List ℕ) → Climbs n least xs → has w xs ≡ true → along f xs w ≡ reach f xs w

@@ -114,7 +114,13 @@ follows-after n w x (y ∷ ys) c h =
           from = rw (eq-eqb y w e) refl;
           there = rw (eq-eqb x x refl) refl;
           less = omega (arith, c .1);
-          adds = λ f. omega (arith, along-past f x w (y ∷ ys) (omega (arith, c .1)), along-at f y w ys e, along-at f x x (y ∷ ys) refl);
+          adds =
+              λ f. omega (
+                arith,
+                along-past f x w (y ∷ ys) (omega (arith, c .1)),
+                along-at f y w ys e,
+                along-at f x x (y ∷ ys) refl,
+              );
         },
       )
       | no d ↦
@@ -137,7 +143,8 @@ follows-after n w x (y ∷ ys) c h =
           ))
     ]
 
-pub follows : (n least w : ℕ) (xs : List ℕ) → Climbs n least xs → has w xs ≡ true → Begins xs w ⊎ ((v : ℕ) × Follows xs (source xs w) v w)
+pub follows : (n least w : ℕ) (xs : List ℕ) → Climbs n least xs → has w xs ≡ true
+    → Begins xs w ⊎ ((v : ℕ) × Follows xs (source xs w) v w)
 unfolding has source
 follows n least w [] c h = absurd (true-false (sym h))
 follows n least w (x ∷ xs) c h =

@@ -10,10 +10,12 @@ use borrow.Author.Tests.{le-leb}
 use Rattle.rules.specs.Words.{cut, has}
 use Rattle.rules.specs.Table.{View, source}
 use Rattle.rules.specs.Office.{K}
-use Rattle.rules.specs.Machine.{Frame, Waiting, Releases, Gone, ofChannel, dueFrom, due, AnyOrder, joined, Holding, Run, Allowed, Order, Choice, queueIn, heldIn, arrivals, holding, played}
+use Rattle.rules.specs.Machine.{Frame, Waiting, Releases, Gone, ofChannel, dueFrom, due, AnyOrder, joined, Holding}
+use Rattle.rules.specs.Machine.{Run, Allowed, Order, Choice, queueIn, heldIn, arrivals, holding, played}
 use Rattle.rules.specs.Sound.{Sound}
 use Rattle.rules.proofs.Bounds.Routes.{nowhere-off, climbs-below, follows}
-use Rattle.rules.proofs.Machine.Played.{gathered-same, reaching-same, goneAt, arrivedAt, heldAt, queue-next, gone-now, held-now, empty-first}
+use Rattle.rules.proofs.Machine.Played.{gathered-same, reaching-same, goneAt, arrivedAt, heldAt}
+use Rattle.rules.proofs.Machine.Played.{queue-next, gone-now, held-now, empty-first}
 use Rattle.rules.proofs.Sums.{bool-cases}
 
 -- what is held follows from the three conditions
@@ -96,7 +98,9 @@ module _ {t : View} {released : Releases} {held : Holding} (run : Run t released
         ∙ rw (came-as w slot, before .queue, before .held-too) (sym (run .keeps w slot l)) in
         record {
           queue = same;
-          held-too = held-from (suc slot) same (λ more. ap (λ (h : ℕ). h - 1) (before .held-too) ∙ sym (allowed .not-again w slot l more));
+          held-too =
+              held-from (suc slot) same
+              (λ more. ap (λ (h : ℕ). h - 1) (before .held-too) ∙ sym (allowed .not-again w slot l more));
         }
 
     pub every-run-played :
@@ -117,5 +121,9 @@ module _ {t : View} {released : Releases} {held : Holding} (run : Run t released
       Allowed run → Sound t → (w slot : ℕ) → w < t .wires →
       AnyOrder (due t released (goneAt t released orderOf choiceOf) w slot) (arrivedAt t released orderOf choiceOf w slot)
   every-order-due allowed sound w slot l =
-      rw (came-as w slot, ← due-below t sound released (run .gone) (goneAt t released orderOf choiceOf) (λ v earlier lv. every-run-played allowed v lv earlier .2) w slot)
+      rw (
+        came-as w slot,
+        ← due-below t sound released (run .gone) (goneAt t released orderOf choiceOf)
+            (λ v earlier lv. every-run-played allowed v lv earlier .2) w slot,
+      )
       (run .any-order w slot l)

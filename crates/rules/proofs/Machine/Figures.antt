@@ -13,22 +13,28 @@ use Rattle.rules.specs.Words.{sum, total, only, gathered}
 use Rattle.rules.specs.Price.{price, lastBytes}
 use Rattle.rules.specs.Table.{View, lastWire}
 use Rattle.rules.specs.Office.{K}
-use Rattle.rules.specs.Bounds.{cost, times, on, carries, loadOf, load, shareOf, burst, backlogAfter, known, backlog, delay, endToEnd}
-use Rattle.rules.specs.Machine.{Frame, Releases, Keeps, Holding, Run, Allowed, AnyOrder, message, sending, bytes, unsent, Gone, reaching, delivered, ofChannel}
+use Rattle.rules.specs.Bounds.{cost, times, on, carries, loadOf, load, shareOf, burst}
+use Rattle.rules.specs.Bounds.{backlogAfter, known, backlog, delay, endToEnd}
+use Rattle.rules.specs.Machine.{Frame, Releases, Keeps, Holding, Run, Allowed, AnyOrder, message}
+use Rattle.rules.specs.Machine.{sending, bytes, unsent, Gone, reaching, delivered, ofChannel}
 use Rattle.rules.specs.Promise.{Among}
 use Rattle.rules.specs.Sound.{Sound}
-use Rattle.rules.proofs.Sums.{bool-cases, sum-le, sum-same, sum-add, sum-scale, sum-none, sum-alone, sum-grows, sum-cut, total-gathered, total-empty, some-none}
+use Rattle.rules.proofs.Sums.{bool-cases, sum-le, sum-same, sum-add, sum-scale, sum-none, sum-alone}
+use Rattle.rules.proofs.Sums.{sum-grows, sum-cut, total-gathered, total-empty, some-none}
 use Rattle.rules.proofs.Machine.Orders.{same, any-order-complete, among-complete}
 use Rattle.rules.proofs.Price.{frames-price, price-grows}
 use Rattle.rules.proofs.Bounds.Routes.{nowhere-off, last-there, last-total, route-same, along-add, climbs-below}
 use Rattle.rules.proofs.Machine.Gaps.{window-most}
 use Rattle.rules.proofs.Bounds.Delays.{jitter-known, delay-enough, delay-least, delay-carries}
 use Rattle.rules.proofs.Machine.Server.{Server, Bursts, Passes, before, sizeOf, balance}
-use Rattle.rules.proofs.Machine.Flow.{own, young, into, total-channel, total-born, total-message, message-young, message-other, none-into, reached, came-sum, came-own, flows, window, longer, shortest}
+use Rattle.rules.proofs.Machine.Flow.{own, young, into, total-channel, total-born, total-message}
+use Rattle.rules.proofs.Machine.Flow.{message-young, message-other, none-into, reached, came-sum}
+use Rattle.rules.proofs.Machine.Flow.{came-own, flows, window, longer, shortest}
 use Rattle.rules.proofs.Machine.Network.{network}
 
 -- A message is priced by its payload.
-message-size : (t : View) (released : Releases) (k r : ℕ) → total sizeOf (message t released k r) ≡ price (t .framing k) (released k r)
+message-size : (t : View) (released : Releases) (k r : ℕ)
+    → total sizeOf (message t released k r) ≡ price (t .framing k) (released k r)
 message-size t released k r = total-message t released k r sizeOf ∙ frames-price (t .framing k) (released k r)
 
 price-none : (framing : ℕ) → framing ≤ 1 → price framing 0 ≡ 0
@@ -43,13 +49,20 @@ module _ (t : View) (sound : Sound t) (released : Releases) (keeps : Keeps t rel
       omega (
         arith,
         message-size t released k r,
-        price-grows (t .framing k) (sound .framing-most k lk) (released k r) (t .payload k) (omega (arith, keeps .declared k r lk)),
+        price-grows (t .framing k) (sound .framing-most k lk) (released k r) (t .payload k)
+            (omega (arith, keeps .declared k r lk)),
       )
 
   some-released : (r : ℕ) → 0 < total sizeOf (message t released k r) → 0 < released k r
   some-released r h =
       elim (eq-zero-or-pos (released k r)) [
-        | inl e ↦ absurd (omega (arith, message-size t released k r, ap (price (t .framing k)) e, price-none (t .framing k) (sound .framing-most k lk)))
+        | inl e ↦
+            absurd (omega (
+              arith,
+              message-size t released k r,
+              ap (price (t .framing k)) e,
+              price-none (t .framing k) (sound .framing-most k lk),
+            ))
         | inr some ↦ some
       ]
 
@@ -75,7 +88,8 @@ divided : (h x y z : ℕ) → 1 ≤ h → h * x ≤ h * y + z → x ≤ y + z / 
 divided h x y z l le =
     elim (decLe x (y + z / h)) [
       | yes fine ↦ fine
-      | no more ↦ absurd (omega (arith, lt-div-mul-add {a = z} {b = h} l, mul-le-mul-left {m = suc (y + z / h)} {n = x} h (omega arith)))
+      | no more ↦
+          absurd (omega (arith, lt-div-mul-add {a = z} {b = h} l, mul-le-mul-left {m = suc (y + z / h)} {n = x} h (omega arith)))
     ]
 
 -- What has reached the destination is what has left the last wire.
@@ -132,21 +146,27 @@ module _
     blocked w s = t .rate w * held w s
 
     -- Q-4's hold is what stands in the way: a slot that is held is one less to come.
-    base : (w : ℕ) → w < t .wires → Server (t .rate w) (λ s. sending (t .rate w) (held w s)) (blocked w) (λ s. 0) (run .queue w) (run .arrived w) (run .gone w)
+    base : (w : ℕ) → w < t .wires
+        → Server (t .rate w) (λ s. sending (t .rate w) (held w s)) (blocked w) (λ s. 0)
+        (run .queue w) (run .arrived w) (run .gone w)
     unfolding bytes total
     base w l =
         record {
           empty = run .empty w l;
           sends = λ s. run .sends w s l;
           keeps = λ s. run .keeps w s l;
-          serves = λ s more. held-less (t .rate w) (held w s) (held w (suc s)) (allowed .not-again w s l (λ e. omega (arith, ap bytes e)));
+          serves =
+              λ s more. held-less (t .rate w) (held w s) (held w (suc s))
+              (allowed .not-again w s l (λ e. omega (arith, ap bytes e)));
         }
 
     -- To a wire that carries no channel nothing comes.
     none-came : (w : ℕ) → w < t .wires → carries t w ≡ false → (g : Frame → ℕ) (n : ℕ) → before (run .arrived w) g n ≡ 0
     none-came w l off g n =
         came-sum t released (run .arrived) (run .gone) (run .any-order) w l g n
-        ∙ sum-same _ (λ k. 0) (t .channels) (λ k lk. none-into t released (run .gone) w k (nowhere-off w (t .route k) (some-none (on t w) (t .channels) off k lk)) g n)
+        ∙ sum-same _ (λ k. 0) (t .channels)
+        (λ k lk. none-into t released (run .gone) w k
+        (nowhere-off w (t .route k) (some-none (on t w) (t .channels) off k lk)) g n)
         ∙ sum-none (t .channels)
 
     idle : (w : ℕ) → w < t .wires → carries t w ≡ false → (a : ℕ) → (run .queue w a ≡ []) × (run .arrived w a ≡ [])
@@ -154,8 +174,10 @@ module _
     idle w l off a =
         let one : Frame → ℕ = λ f. 1 in
         let none = none-came w l off one in
-        let waits = balance (t .rate w) _ (blocked w) (λ s. 0) (run .queue w) (run .arrived w) (run .gone w) (base w l) one a in
-        (total-empty (run .queue w a) (omega (arith, waits, none a)), total-empty (run .arrived w a) (omega (arith, none a, none (suc a))))
+        let waits = balance (t .rate w) _ (blocked w) (λ s. 0) (run .queue w) (run .arrived w) (run .gone w) (base w l) one a in (
+          total-empty (run .queue w a) (omega (arith, waits, none a)),
+          total-empty (run .arrived w a) (omega (arith, none a, none (suc a))),
+        )
 
     -- A channel's share of what comes to a wire in slot a and d further slots, times H.
     module _
@@ -171,7 +193,9 @@ module _
             elim (bool-cases (on t w k)) [
               | inl there ↦
                   (let own-came = came-own t released (run .arrived) (run .gone) (run .any-order) w lw k lk sizeOf in
-                  let flow = flows t released (run .arrived) (run .gone) (run .any-order) (lagOf t) k lk (sound .climbs k lk) w below there in
+                  let flow =
+                  flows t released (run .arrived) (run .gone) (run .any-order) (lagOf t) k lk (sound .climbs k lk)
+                  w below there in
                   let seen = window t released (run .arrived) (lagOf t) w k flow sizeOf a d in
                   let start = seen .0 in
                   rw (there, jitter-known t w k (sound .climbs k lk) there)
@@ -204,7 +228,8 @@ module _
               ap (λ (x : ℕ). t .hyper * x) (came (suc (a + d))),
               sum-scale (t .hyper) (from a) (t .channels),
               sum-scale (t .hyper) (from (suc (a + d))) (t .channels),
-              sum-le (λ k. t .hyper * from (suc (a + d)) k) (λ k. t .hyper * from a k + rest k) (t .channels) (λ k lk. share-most k lk a d),
+              sum-le (λ k. t .hyper * from (suc (a + d)) k) (λ k. t .hyper * from a k + rest k) (t .channels)
+                  (λ k lk. share-most k lk a d),
               sum-add (λ k. t .hyper * from a k) rest (t .channels),
               sum-add (shareOf t (known t w) w) (λ k. d * loadOf t w k) (t .channels),
               sum-scale d (loadOf t w) (t .channels),
@@ -228,7 +253,8 @@ module _
             let x = before (run .arrived w) sizeOf (suc (a + d)) in
             let y = before (run .arrived w) sizeOf a + t .rate w * d in
             let most : x ≤ y + burst t (known t w) w / t .hyper =
-            divided (t .hyper) x y (burst t (known t w) w) (sound .hyper-least) (omega (arith, burst-most a d, mul-le-mul-left d (fits w lw))) in
+            divided (t .hyper) x y (burst t (known t w) w) (sound .hyper-least)
+            (omega (arith, burst-most a d, mul-le-mul-left d (fits w lw))) in
             omega (arith, most, blocked-most a, sum-none (suc (a + d)))
 
     enough :
@@ -242,26 +268,30 @@ module _
           mul-le-mul-left {m = delay t w} {n = suc (lagOf t w)} (t .rate w) (omega arith),
         )
 
-    wired : (w : ℕ) → w < t .wires → Passes (run .arrived w) (run .gone w) (lagOf t w) × ((s : ℕ) → unsent run w s + blocked w s ≤ backlog t w)
+    wired : (w : ℕ) → w < t .wires
+        → Passes (run .arrived w) (run .gone w) (lagOf t w) × ((s : ℕ) → unsent run w s + blocked w s ≤ backlog t w)
     wired =
-        network (t .wires) (t .rate) (λ w s. sending (t .rate w) (held w s)) blocked (λ w s. 0) (run .queue) (run .arrived) (run .gone) base
-        (backlog t) (lagOf t) burst-rule enough
+        network (t .wires) (t .rate) (λ w s. sending (t .rate w) (held w s)) blocked (λ w s. 0) (run .queue)
+        (run .arrived) (run .gone) base (backlog t) (lagOf t) burst-rule enough
 
     pub backlog-holds : (w slot : ℕ) → w < t .wires → unsent run w slot ≤ backlog t w
     backlog-holds w slot l = omega (arith, wired w l .1 slot)
 
     -- What has reached a wire by a slot has left it within its delay.
-    left-total : (w slot : ℕ) → w < t .wires → (g : Frame → ℕ) → before (run .arrived w) g (suc slot) ≤ before (run .gone w) g (slot + delay t w)
+    left-total : (w slot : ℕ) → w < t .wires → (g : Frame → ℕ)
+        → before (run .arrived w) g (suc slot) ≤ before (run .gone w) g (slot + delay t w)
     left-total w slot l g =
         elim (bool-cases (carries t w)) [
           | inl some ↦
-              (let e : suc (slot + lagOf t w) ≡ slot + delay t w = omega (arith, delay-carries t w (sound .rate-least w l) some) in
+              (let e : suc (slot + lagOf t w) ≡ slot + delay t w
+              = omega (arith, delay-carries t w (sound .rate-least w l) some) in
               omega (arith, wired w l .0 .prompt g slot, ap (before (run .gone w) g) e))
           | inr off ↦ omega (arith, none-came w l off g (suc slot))
         ]
 
     pub left-within :
-        (w slot n : ℕ) → w < t .wires → slot + delay t w ≤ n → Among (gathered (run .arrived w) (suc slot)) (gathered (run .gone w) n)
+        (w slot n : ℕ) → w < t .wires → slot + delay t w ≤ n →
+        Among (gathered (run .arrived w) (suc slot)) (gathered (run .gone w) n)
     left-within w slot n l by =
         among-complete (gathered (run .arrived w) (suc slot)) (gathered (run .gone w) n) (λ f.
         let one : Frame → ℕ = λ x. only (same f x) 1 in
@@ -315,7 +345,8 @@ module _
           let c = sound .climbs k lk in
           let there = last-there xs (sound .hops-least k lk) in
           let lz = climbs-below (t .wires) 0 z xs c there in
-          let flow = flows t released (run .arrived) (run .gone) (run .any-order) (lagOf t) k lk c z (λ v below lv. wired v lv .0) there in
+          let flow =
+          flows t released (run .arrived) (run .gone) (run .any-order) (lagOf t) k lk c z (λ v below lv. wired v lv .0) there in
           let passes = wired z lz .0 in
           let n = suc slot - (1 + t .prop z) in
           let onto = r + (shortest t z k + longer t (lagOf t) z k) in
@@ -330,10 +361,12 @@ module _
             flow .later (young r g) (suc r),
             ap (before (run .arrived z) (own k (young r g))) came,
             passes .prompt (own k (young r g)) onto,
-            sum-grows (λ (s : ℕ). total (own k (young r g)) (run .gone z s)) (suc (onto + lagOf t z)) n (omega (arith, end-to-end k lk)),
+            sum-grows (λ (s : ℕ). total (own k (young r g)) (run .gone z s)) (suc (onto + lagOf t z)) n
+                (omega (arith, end-to-end k lk)),
           )
 
     pub delivered-whole :
         (k r slot : ℕ) → k < t .channels → r + endToEnd t k ≤ slot →
         AnyOrder (message t released k r) (delivered t (run .gone) k r slot)
-    delivered-whole k r slot lk due = any-order-complete _ _ (λ f. delivered-total k r slot lk due (λ (x : Frame). only (same f x) 1))
+    delivered-whole k r slot lk due =
+        any-order-complete _ _ (λ f. delivered-total k r slot lk due (λ (x : Frame). only (same f x) 1))

@@ -14,7 +14,8 @@ use Rattle.rules.specs.Table.{View, Source, nowhere, release, wire, sour
 use Rattle.rules.specs.Bounds.{along}
 use Rattle.rules.specs.Machine.{Frame, Releases, message, ofChannel, bornIn, Gone, reaching, dueFrom, due, AnyOrder}
 use Rattle.rules.specs.Sound.{Climbs}
-use Rattle.rules.proofs.Sums.{ascend, sum-same, sum-swap, sum-alone, sum-none, sum-grows, total-append, total-same, total-none, total-map, total-gathered}
+use Rattle.rules.proofs.Sums.{ascend, sum-same, sum-swap, sum-alone, sum-none, sum-grows}
+use Rattle.rules.proofs.Sums.{total-append, total-same, total-none, total-map, total-gathered}
 use Rattle.rules.proofs.Machine.Orders.{any-order-total}
 use Rattle.rules.proofs.Bounds.Routes.{Follows, Begins, follows, climbs-below}
 use Rattle.rules.proofs.Machine.Server.{before, Passes}
@@ -56,9 +57,11 @@ only-zero false = refl
 -- a weight over a message is one over the sizes of its frames
 pub total-message :
     (t : View) (released : Releases) (k r : ℕ) (g : Frame → ℕ) →
-    total g (message t released k r) ≡ total (λ (size : ℕ). g (record { channel = k; born = r; size = size })) (frames (t .framing k) (released k r))
+    total g (message t released k r)
+    ≡ total (λ (size : ℕ). g (record { channel = k; born = r; size = size })) (frames (t .framing k) (released k r))
 unfolding message
-total-message t released k r g = total-map g (λ (size : ℕ). record { channel = k; born = r; size = size }) (frames (t .framing k) (released k r))
+total-message t released k r g =
+    total-map g (λ (size : ℕ). record { channel = k; born = r; size = size }) (frames (t .framing k) (released k r))
 
 module _ (t : View) (released : Releases) (k r : ℕ) (g : Frame → ℕ) where
   message-own : total (own k g) (message t released k r) ≡ total g (message t released k r)
@@ -106,7 +109,8 @@ pub none-into :
     (t : View) (released : Releases) (gone : Gone) (w k : ℕ) → source (t .route k) w ≡ nowhere → (g : Frame → ℕ) (n : ℕ) →
     before (into t released gone w k) g n ≡ 0
 unfolding dueFrom total
-none-into t released gone w k e g n = ap (λ (src : Source). before (λ slot. dueFrom src t released gone slot k) g n) e ∙ sum-none n
+none-into t released gone w k e g n =
+    ap (λ (src : Source). before (λ slot. dueFrom src t released gone slot k) g n) e ∙ sum-none n
 
 -- 1 + propagation slots later
 pub reached :
@@ -150,7 +154,8 @@ module _
         (w slot : ℕ) → w < t .wires → (g : Frame → ℕ) →
         total g (arrived w slot) ≡ sum (λ (k : ℕ). total g (into t released gone w k slot)) (t .channels)
     unfolding due
-    arrived-sum w slot l g = sym (any-order-total g (any-order w slot l)) ∙ total-gathered g (λ k. into t released gone w k slot) (t .channels)
+    arrived-sum w slot l g =
+        sym (any-order-total g (any-order w slot l)) ∙ total-gathered g (λ k. into t released gone w k slot) (t .channels)
 
     -- what comes to a wire is what its channels bring
     pub came-sum :
@@ -166,14 +171,16 @@ module _
     came-own w l k lk g n =
         sum-same _ _ n (λ slot below.
         arrived-sum w slot l (own k g)
-        ∙ sum-alone (λ (j : ℕ). total (own k g) (into t released gone w j slot)) (t .channels) k lk (λ j d. due-other (source (t .route j) w) t released gone slot j k g d)
+        ∙ sum-alone (λ (j : ℕ). total (own k g) (into t released gone w j slot)) (t .channels) k lk
+        (λ j d. due-other (source (t .route j) w) t released gone slot j k g d)
         ∙ due-own (source (t .route k) w) t released gone slot k g)
 
     pub came-released :
         (w : ℕ) → w < t .wires → (k : ℕ) → k < t .channels → source (t .route k) w ≡ release → (g : Frame → ℕ) (n : ℕ) →
         before (arrived w) (own k g) n ≡ before (message t released k) g n
     unfolding dueFrom
-    came-released w l k lk e g n = came-own w l k lk g n ∙ ap (λ (src : Source). before (λ slot. dueFrom src t released gone slot k) g n) e
+    came-released w l k lk e g n =
+        came-own w l k lk g n ∙ ap (λ (src : Source). before (λ slot. dueFrom src t released gone slot k) g n) e
 
     pub came-passed :
         (w : ℕ) → w < t .wires → (k : ℕ) → k < t .channels → (v : ℕ) → source (t .route k) w ≡ wire v → (g : Frame → ℕ) (n : ℕ) →
@@ -222,7 +229,8 @@ module _
                   | suc m ↦
                       (let onto = m + (shortest t v k + longer t lag v k) in
                       let came : suc m + (shortest t v k + longer t lag v k) ≡ suc onto = omega arith in
-                      let left : suc m + (shortest t w k + longer t lag w k) - (1 + t .prop v) ≡ suc (onto + lag v) = omega arith in
+                      let left : suc m + (shortest t w k + longer t lag w k) - (1 + t .prop v) ≡ suc (onto + lag v)
+                      = omega arith in
                       omega (
                         arith,
                         came-passed w l k lk v (f .from) g (suc m + (shortest t w k + longer t lag w k)),
@@ -240,7 +248,9 @@ module _
           ((v : ℕ) → v < w → v < t .wires → Passes (arrived v) (gone v) (lag v)) →
           has w (t .route k) ≡ true → Flows t released arrived lag w k
       flows c w passes there =
-          ascend (λ (w : ℕ). ((v : ℕ) → v < w → v < t .wires → Passes (arrived v) (gone v) (lag v)) → has w (t .route k) ≡ true → Flows t released arrived lag w k)
+          ascend
+          (λ (w : ℕ). ((v : ℕ) → v < w → v < t .wires → Passes (arrived v) (gone v) (lag v)) → has w (t .route k) ≡ true
+          → Flows t released arrived lag w k)
           (λ w rest passes there.
           let l : w < t .wires = climbs-below (t .wires) 0 w (t .route k) c there in
           elim (follows (t .wires) 0 w (t .route k) c there) [
@@ -275,6 +285,7 @@ window t released arrived lag w k flow g a d =
       omega (
         arith,
         flow .sooner g (suc (a + d)),
-        sum-grows (λ (s : ℕ). total g (message t released k s)) (suc (a + d) - shortest t w k) (suc (start + (d + longer t lag w k))) (omega arith),
+        sum-grows (λ (s : ℕ). total g (message t released k s)) (suc (a + d) - shortest t w k)
+            (suc (start + (d + longer t lag w k))) (omega arith),
       ),
     )

@@ -15,15 +15,18 @@ module _
     unfolding sum
     ahead a zero m l h = omega (arith, ap (λ (x : ℕ). period * sum f x) (add-zero a))
     ahead a (suc n) m l h =
-        let next : period * sum f (a + suc n) ≡ period * (sum f (a + n) + f (a + n)) = ap (λ (x : ℕ). period * sum f x) (add-suc a n) in
+        let next : period * sum f (a + suc n) ≡ period * (sum f (a + n) + f (a + n))
+        = ap (λ (x : ℕ). period * sum f x) (add-suc a n) in
         elim (decLe (f (a + n)) 0) [
-          | yes none ↦ (let z : f (a + n) ≡ 0 = omega arith in omega (arith, ahead a n m (omega arith) h, ap (λ (x : ℕ). period * x) z))
+          | yes none ↦
+              (let z : f (a + n) ≡ 0 = omega arith in omega (arith, ahead a n m (omega arith) h, ap (λ (x : ℕ). period * x) z))
           | no some ↦
               omega (
                 arith,
                 ahead a n n (omega arith) (omega arith),
                 mul-le-mul-left period (small (a + n)),
-                mul-le-mul-left {m = n + period} {n = m} most (omega (arith, apart (a + n) (a + m) (omega arith) (omega arith) h)),
+                mul-le-mul-left {m = n + period} {n = m} most
+                    (omega (arith, apart (a + n) (a + m) (omega arith) (omega arith) h)),
               )
         ]
 
@@ -42,5 +45,6 @@ module _
                 ap (λ (x : ℕ). period * x) z,
                 ap (λ (x : ℕ). period * sum f x) (add-suc a n),
               ))
-          | no some ↦ omega (arith, ahead a (suc n) (suc n) (omega arith) (omega arith), mul-le-mul-left period (small (a + suc n)))
+          | no some ↦
+              omega (arith, ahead a (suc n) (suc n) (omega arith) (omega arith), mul-le-mul-left period (small (a + suc n)))
         ]

@@ -22,8 +22,14 @@ module _
         (w : ℕ) → w < wires →
         Passes (arrived w) (gone w) (lag w) × ((s : ℕ) → bytes (joined (queue w s) (arrived w s)) + block w s ≤ burst w)
     network =
-        ascend (λ (w : ℕ). w < wires → Passes (arrived w) (gone w) (lag w) × ((s : ℕ) → bytes (joined (queue w s) (arrived w s)) + block w s ≤ burst w)) (λ w below l.
-        let most = unsent-most (rate w) (room w) (block w) (extra w) (queue w) (arrived w) (gone w) (server w l) (burst w) (rule w l (λ v less lv. below v less lv .0)) in (
-          passes (rate w) (room w) (block w) (extra w) (queue w) (arrived w) (gone w) (server w l) (lag w) (λ s. omega (arith, most s, enough w s l)),
+        ascend
+        (λ (w : ℕ). w < wires → Passes (arrived w) (gone w) (lag w)
+        × ((s : ℕ) → bytes (joined (queue w s) (arrived w s)) + block w s ≤ burst w))
+        (λ w below l.
+        let most =
+        unsent-most (rate w) (room w) (block w) (extra w) (queue w) (arrived w) (gone w) (server w l) (burst w)
+        (rule w l (λ v less lv. below v less lv .0)) in (
+          passes (rate w) (room w) (block w) (extra w) (queue w) (arrived w) (gone w) (server w l) (lag w)
+              (λ s. omega (arith, most s, enough w s l)),
           most,
         ))

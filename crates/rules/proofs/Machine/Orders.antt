@@ -62,7 +62,8 @@ any-order-complete [] [] h = none
 any-order-complete [] (y ∷ ys) h = absurd (omega (arith, rw (same-self y) at (h y)))
 any-order-complete (x ∷ xs) zs h =
     let out = taken x zs (omega (arith, rw (same-self x) at (h x))) in
-    more (any-order-complete xs (out .0) (λ f. omega (arith, h f, put-total (λ (y : Frame). only (same f y) 1) (out .1)))) (out .1)
+    more (any-order-complete xs (out .0) (λ f. omega (arith, h f, put-total (λ (y : Frame). only (same f y) 1) (out .1))))
+    (out .1)
 
 pub order-self : (xs : List Frame) → AnyOrder xs xs
 order-self [] = none

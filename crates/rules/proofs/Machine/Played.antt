@@ -12,7 +12,9 @@ use borrow.Author.Tests.{le-leb, lt-leb}
 use Rattle.rules.specs.Words.{listed, gathered, cut}
 use Rattle.rules.specs.Table.{View, Source, nowhere, release, wire, source}
 use Rattle.rules.specs.Office.{K}
-use Rattle.rules.specs.Machine.{Frame, Waiting, whole, Releases, Gone, ofChannel, reaching, dueFrom, due, AnyOrder, sent, kept, joined, Holding, sending, Run, Allowed, nobody, Order, Choice, queueIn, heldIn, goneIn, arrivals, holding, step, played}
+use Rattle.rules.specs.Machine.{Frame, Waiting, whole, Releases, Gone, ofChannel, reaching, dueFrom, due}
+use Rattle.rules.specs.Machine.{AnyOrder, sent, kept, joined, Holding, sending, Run, Allowed, nobody, Order}
+use Rattle.rules.specs.Machine.{Choice, queueIn, heldIn, goneIn, arrivals, holding, step, played}
 use Rattle.rules.proofs.Tables.Columns.{length-listed, getD-listed}
 
 pub gathered-same : {A : Type 0} (f g : ℕ → List A) (n : ℕ) → ((i : ℕ) → i < n → f i ≡ g i) → gathered f n ≡ gathered g n
@@ -21,7 +23,8 @@ gathered-same f g zero e = refl
 gathered-same f g (suc n) e = rw (gathered-same f g n (λ i l. e i (omega arith)), e n (omega arith)) refl
 
 -- What is due in a slot reads only what was gone before it.
-module _ (t : View) (one other : Gone) (slot v : ℕ) (agree : (earlier : ℕ) → earlier < slot → one v earlier ≡ other v earlier) where
+module _ (t : View) (one other : Gone) (slot v : ℕ)
+    (agree : (earlier : ℕ) → earlier < slot → one v earlier ≡ other v earlier) where
   ago : (later : ℕ) → 0 < later →
       cond (leb later slot) (one v (slot - later)) [] ≡ cond (leb later slot) (other v (slot - later)) []
   ago later some =
@@ -56,7 +59,8 @@ cut-most x most =
       | no n ↦ rw (lt-leb x most (omega arith)) (omega arith)
     ]
 
-holding-most : (queue full : List Waiting) (most chosen left : ℕ) → chosen ≤ most → left ≤ most → holding queue full chosen left ≤ most
+holding-most : (queue full : List Waiting) (most chosen left : ℕ) → chosen ≤ most → left ≤ most
+    → holding queue full chosen left ≤ most
 unfolding holding
 holding-most [] [] most chosen left c l = omega arith
 holding-most [] (x ∷ full) most chosen left c l = c
@@ -81,13 +85,15 @@ module _ (t : View) (released : Releases) (order : Order) (choice : Choice) wher
   goneAt w slot = goneIn (played t released order choice (suc slot)) (suc slot) w slot
 
   -- and seen from any later slot
-  pub seen-later : (slot v earlier : ℕ) → earlier < slot → goneIn (played t released order choice slot) slot v earlier ≡ goneAt v earlier
+  pub seen-later : (slot v earlier : ℕ) → earlier < slot
+      → goneIn (played t released order choice slot) slot v earlier ≡ goneAt v earlier
   unfolding played step
   seen-later zero v earlier l = absurd (omega arith)
   seen-later (suc slot) v earlier l =
       elim (ℕ-discrete earlier slot) [
         | yes e ↦
-            ap (λ (x : ℕ). goneIn (played t released order choice (suc slot)) (suc slot) v x) e ∙ ap (λ (x : ℕ). goneAt v x) (sym e)
+            ap (λ (x : ℕ). goneIn (played t released order choice (suc slot)) (suc slot) v x) e
+            ∙ ap (λ (x : ℕ). goneAt v x) (sym e)
         | no d ↦
             (let one-more : suc slot - suc earlier ≡ suc (slot - suc earlier) = omega arith in
             ap (λ (i : ℕ). getD (getD (played t released order choice (suc slot) .past) i []) v []) one-more
@@ -126,7 +132,8 @@ module _ (t : View) (released : Releases) (order : Order) (choice : Choice) wher
 
     pub held-now :
         heldAt w slot
-        ≡ holding (queueIn (played t released order choice slot) w) (waitingAt w slot) (cut (choice slot w) (K t w)) (heldIn (played t released order choice slot) w - 1)
+        ≡ holding (queueIn (played t released order choice slot) w) (waitingAt w slot) (cut (choice slot w) (K t w))
+        (heldIn (played t released order choice slot) w - 1)
     unfolding played step
     held-now =
         let state = played t released order choice slot in
@@ -134,7 +141,8 @@ module _ (t : View) (released : Releases) (order : Order) (choice : Choice) wher
         ∙ ap (λ (full : List Waiting). holding (queueIn state w) full (cut (choice slot w) (K t w)) (heldIn state w - 1)) full-now
 
     pub due-now :
-        ((slot w : ℕ) (fs : List Frame) → AnyOrder fs (order slot w fs)) → AnyOrder (due t released goneAt w slot) (arrivedAt w slot)
+        ((slot w : ℕ) (fs : List Frame) → AnyOrder fs (order slot w fs)) →
+        AnyOrder (due t released goneAt w slot) (arrivedAt w slot)
     unfolding arrivals
     due-now any =
         let state = played t released order choice slot in
@@ -147,7 +155,8 @@ module _ (t : View) (released : Releases) (order : Order) (choice : Choice) wher
 
   -- Request Q-4's three conditions hold of what the machine does with any choice.
   pub held-from-then-on :
-      (w slot : ℕ) → w < t .wires → queueIn (played t released order choice slot) w ≡ [] → arrivedAt w slot ≡ [] → heldAt w slot ≡ 0
+      (w slot : ℕ) → w < t .wires → queueIn (played t released order choice slot) w ≡ [] → arrivedAt w slot ≡ [] →
+      heldAt w slot ≡ 0
   unfolding holding
   held-from-then-on w slot l queue arrived = held-now w slot l ∙ rw (queue, arrived) refl
 
@@ -166,7 +175,8 @@ module _ (t : View) (released : Releases) (order : Order) (choice : Choice) wher
   held-at-most w (suc slot) l = held-step w (suc slot) l (held-at-most w slot l)
 
   pub held-not-again :
-      (w slot : ℕ) → w < t .wires → ¬ (queueIn (played t released order choice (suc slot)) w ≡ []) → heldAt w (suc slot) ≡ heldAt w slot - 1
+      (w slot : ℕ) → w < t .wires → ¬ (queueIn (played t released order choice (suc slot)) w ≡ []) →
+      heldAt w (suc slot) ≡ heldAt w slot - 1
   held-not-again w slot l more = held-now w (suc slot) l ∙ holding-left _ _ _ _ more
 
   -- And where frames reach an empty queue it is the adversary's choice, cut to K.
@@ -215,8 +225,8 @@ module _ (t : View) (released : Releases) (order : Order) where
       omega (
         arith,
         held-now t released order no-choice w slot l,
-        holding-most (queueIn (played t released order no-choice slot) w) (waitingAt t released order no-choice w slot) 0 chosen left
-            none (omega (arith, held-none w slot l)),
+        holding-most (queueIn (played t released order no-choice slot) w) (waitingAt t released order no-choice w slot)
+            0 chosen left none (omega (arith, held-none w slot l)),
       )
 
   abbrev pub alone-run : ((slot w : ℕ) (fs : List Frame) → AnyOrder fs (order slot w fs)) → Run t released nobody
@@ -228,6 +238,12 @@ module _ (t : View) (released : Releases) (order : Order) where
         gone = run .gone;
         empty = run .empty;
         any-order = run .any-order;
-        sends = λ w slot l. run .sends w slot l ∙ ap (λ (held : ℕ). sent (sending (t .rate w) held) (waitingAt t released order no-choice w slot)) (held-none w (suc slot) l);
-        keeps = λ w slot l. run .keeps w slot l ∙ ap (λ (held : ℕ). kept (sending (t .rate w) held) (waitingAt t released order no-choice w slot)) (held-none w (suc slot) l);
+        sends =
+            λ w slot l. run .sends w slot l
+            ∙ ap (λ (held : ℕ). sent (sending (t .rate w) held) (waitingAt t released order no-choice w slot))
+            (held-none w (suc slot) l);
+        keeps =
+            λ w slot l. run .keeps w slot l
+            ∙ ap (λ (held : ℕ). kept (sending (t .rate w) held) (waitingAt t released order no-choice w slot))
+            (held-none w (suc slot) l);
       }

@@ -24,7 +24,8 @@ promise s lent length e released keeps held run allowed =
             backlog = backlog t w;
             delay = delay t w;
             asked = answers .wire w lw;
-            backlog-most = λ slot. omega (arith, backlog-holds t sound (bounded .loads) released keeps held run allowed w slot lw);
+            backlog-most =
+                λ slot. omega (arith, backlog-holds t sound (bounded .loads) released keeps held run allowed w slot lw);
             within-room = omega (arith, bounded .backlogs w lw);
             left = λ slot. left-within t sound (bounded .loads) released keeps held run allowed w _ _ lw (omega arith);
           });
@@ -34,7 +35,8 @@ promise s lent length e released keeps held run allowed =
             delay = endToEnd t k;
             asked = answers .channel k lk;
             within-deadline = omega (arith, bounded .ends k lk);
-            whole = λ r slot due. delivered-whole t sound (bounded .loads) released keeps held run allowed k r slot lk (omega arith);
+            whole =
+                λ r slot due. delivered-whole t sound (bounded .loads) released keeps held run allowed k r slot lk (omega arith);
           });
     }
 

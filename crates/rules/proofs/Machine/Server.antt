@@ -128,7 +128,9 @@ module _
     -- `more` is what is still to come.
     pub busy :
         (s bound more : ℕ) →
-        ((a d : ℕ) → a + d ≡ s → bytes (queue a) ≡ 0 → block a + before arrived sizeOf (suc s) + sum extra (suc s) + more ≤ before arrived sizeOf a + sum extra (suc a) + rate * d + bound) →
+        ((a d : ℕ) → a + d ≡ s → bytes (queue a) ≡ 0 →
+        block a + before arrived sizeOf (suc s) + sum extra (suc s) + more
+        ≤ before arrived sizeOf a + sum extra (suc a) + rate * d + bound) →
         bytes (joined (queue s) (arrived s)) + block s + more ≤ bound
     unfolding sum bytes total
     busy zero bound more h =
@@ -223,7 +225,8 @@ module _
     -- what is unsent in slot s, and what comes first, is no more than is sent by slot s + lag
     pub passes :
         (lag : ℕ) →
-        ((s : ℕ) → bytes (joined (queue s) (arrived s)) + block s + sum extra (suc (suc (s + lag))) ≤ rate * suc lag + sum extra (suc s)) →
+        ((s : ℕ) → bytes (joined (queue s) (arrived s)) + block s + sum extra (suc (suc (s + lag)))
+        ≤ rate * suc lag + sum extra (suc s)) →
         Passes arrived gone lag
     unfolding sum
     passes lag enough =

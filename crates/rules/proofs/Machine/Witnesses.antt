@@ -16,14 +16,19 @@ use Rattle.rules.specs.Words.{sum, total, listed, gathered, up, only, ha
 use Rattle.rules.specs.Numbers.{rates}
 use Rattle.rules.specs.Replies.{granted, refused, test, each}
 use Rattle.rules.specs.Price.{fullFrame, smallFrame, lastBytes, price, lastFrame, frames}
-use Rattle.rules.specs.Table.{View, viewOf, hyperOf, wiresOf, channelsOf, wireAt, codeOf, rateOf, propOf, roomOf, framingAt, payloadAt, periodAt, deadlineAt, hopsAt, routeAt, channelAt, endOf, fillingOf, sourceAfter, source, lastWire}
+use Rattle.rules.specs.Table.{View, viewOf, hyperOf, wiresOf, channelsOf, wireAt, codeOf, rateOf}
+use Rattle.rules.specs.Table.{propOf, roomOf, framingAt, payloadAt, periodAt, deadlineAt, hopsAt}
+use Rattle.rules.specs.Table.{routeAt, channelAt, endOf, fillingOf, sourceAfter, source, lastWire}
 use Rattle.rules.specs.Channel.{valueTests, hopTests}
 use Rattle.rules.specs.Reading.{headTests, wireTests, recordTests, channelTests, fillingTests, readingTests}
 use Rattle.rules.specs.Office.{K}
-use Rattle.rules.specs.Bounds.{loadOf, load, along, jitter, shareOf, burst, backlogAfter, delayAfter, delaysBelow, backlog, delay, endToEnd}
+use Rattle.rules.specs.Bounds.{loadOf, load, along, jitter, shareOf, burst, backlogAfter}
+use Rattle.rules.specs.Bounds.{delayAfter, delaysBelow, backlog, delay, endToEnd}
 use Rattle.rules.specs.Sheet.{figuresAt, endAt, sheetLength}
 use Rattle.rules.specs.Judgement.{loadTest, roomTest, deadlineTest, boundsTests, judge}
-use Rattle.rules.specs.Machine.{Frame, Releases, Keeps, message, ofChannel, bornIn, Gone, reaching, dueFrom, due, AnyOrder, sent, kept, bytes, Run, nobody, unsent, delivered, Order, Choice, arrivals, holding, step, played}
+use Rattle.rules.specs.Machine.{Frame, Releases, Keeps, message, ofChannel, bornIn, Gone, reaching}
+use Rattle.rules.specs.Machine.{dueFrom, due, AnyOrder, sent, kept, bytes, Run, nobody, unsent}
+use Rattle.rules.specs.Machine.{delivered, Order, Choice, arrivals, holding, step, played}
 use Rattle.rules.specs.Cases.{caseA, caseB}
 use Rattle.rules.proofs.Sums.{total-append}
 use Rattle.rules.proofs.Machine.Orders.{same, order-self, any-order-complete}
@@ -101,7 +106,12 @@ Takes t gone slots =
 
 -- what the computations below see through
 unfoldable pub definitions : Unit {0}
-unfolding bit field sum total has begins some test each lastBytes price hyperOf wiresOf channelsOf wireAt codeOf rateOf propOf roomOf framingAt payloadAt periodAt deadlineAt hopsAt routeAt channelAt endOf fillingOf headTests wireTests valueTests hopTests recordTests channelTests fillingTests readingTests loadOf load along jitter K shareOf burst backlogAfter delayAfter delaysBelow backlog delay endToEnd figuresAt endAt sheetLength loadTest roomTest deadlineTest boundsTests judge listed gathered lastFrame frames message ofChannel bornIn sourceAfter source reaching dueFrom due sent kept bytes lastWire delivered arrivals holding step played periodic backwards
+unfolding bit field sum total has begins some test each lastBytes price hyperOf wiresOf channelsOf wireAt codeOf rateOf propOf
+    roomOf framingAt payloadAt periodAt deadlineAt hopsAt routeAt channelAt endOf fillingOf headTests wireTests valueTests
+    hopTests recordTests channelTests fillingTests readingTests loadOf load along jitter K shareOf burst backlogAfter delayAfter
+    delaysBelow backlog delay endToEnd figuresAt endAt sheetLength loadTest roomTest deadlineTest boundsTests judge listed
+    gathered lastFrame frames message ofChannel bornIn sourceAfter source reaching dueFrom due sent kept bytes lastWire delivered
+    arrivals holding step played periodic backwards
 definitions = tt
 
 -- K by rate: of a wire that is first on some route, and of another.
@@ -110,12 +120,15 @@ pub holds-by-rate :
 holds-by-rate = (refl, refl)
 
 -- A wire held as long as it may be: H 1; one wire of rate 100; a channel of payload 50, period 1. It holds exactly its backlog,
--- which is its room, in slot 31; the first frame takes exactly the wire's delay, and the first message its end-to-end delay, which
--- is its deadline.
+-- which is its room, in slot 31; the first frame takes exactly the wire's delay, and the first message its end-to-end delay,
+-- which is its deadline.
 abbrev pub heldUp : List ℕ
-heldUp = 0x00 ∷ 0x00 ∷ 0x01 ∷ 0x02 ∷ 0x03 ∷ 0x00 ∷ 0x00 ∷ 0x01 ∷ 0x90 ∷ 0x00 ∷ 0x03 ∷ 0x20 ∷ 0x00 ∷ 0x00 ∷ 0x10 ∷ 0x00 ∷ 0x02 ∷ 0x01 ∷ 0x00 ∷ []
+heldUp =
+    0x00 ∷ 0x00 ∷ 0x01 ∷ 0x02 ∷ 0x03 ∷ 0x00 ∷ 0x00 ∷ 0x01 ∷ 0x90 ∷ 0x00 ∷ 0x03 ∷ 0x20 ∷ 0x00 ∷ 0x00 ∷ 0x10 ∷ 0x00 ∷ 0x02
+    ∷ 0x01 ∷ 0x00 ∷ []
 
-abbrev pub runHeld : Run (viewOf heldUp) (periodic (viewOf heldUp)) (heldAt (viewOf heldUp) (periodic (viewOf heldUp)) in-turn (longest (viewOf heldUp) 1))
+abbrev pub runHeld : Run (viewOf heldUp) (periodic (viewOf heldUp))
+    (heldAt (viewOf heldUp) (periodic (viewOf heldUp)) in-turn (longest (viewOf heldUp) 1))
 runHeld = played-run (viewOf heldUp) (periodic (viewOf heldUp)) in-turn (longest (viewOf heldUp) 1) in-turn-any
 
 pub held-accepted : judge heldUp 12 ≡ granted (12 ∷ [])
@@ -159,16 +172,20 @@ held-takes = (refl, refl)
 -- back until its second is close behind; at wire 1, held when they come, the second goes first. The first message takes
 -- exactly its end-to-end delay. A wire that is first on some route and one that is not have different K.
 abbrev pub later : List ℕ
-later = 0x00 ∷ 0x00 ∷ 0x42 ∷ 0x04 ∷ 0x05 ∷ 0x00 ∷ 0x00 ∷ 0x01 ∷ 0x9c ∷ 0xb0 ∷ 0x00 ∷ 0x00 ∷ 0x0d ∷ 0xe0 ∷ 0x00 ∷ 0x01 ∷ 0x00 ∷ 0x00 ∷ 0x21 ∷ 0x00 ∷ 0x00 ∷ 0x34 ∷ 0x20 ∷ 0x01 ∷ 0x00 ∷ 0x1f ∷ 0x80 ∷ 0x00 ∷ 0x21 ∷ 0x00 ∷ 0x00 ∷ 0x11 ∷ 0x08 ∷ 0x00 ∷ []
+later =
+    0x00 ∷ 0x00 ∷ 0x42 ∷ 0x04 ∷ 0x05 ∷ 0x00 ∷ 0x00 ∷ 0x01 ∷ 0x9c ∷ 0xb0 ∷ 0x00 ∷ 0x00 ∷ 0x0d ∷ 0xe0 ∷ 0x00 ∷ 0x01 ∷ 0x00 ∷ 0x00
+    ∷ 0x21 ∷ 0x00 ∷ 0x00 ∷ 0x34 ∷ 0x20 ∷ 0x01 ∷ 0x00 ∷ 0x1f ∷ 0x80 ∷ 0x00 ∷ 0x21 ∷ 0x00 ∷ 0x00 ∷ 0x11 ∷ 0x08 ∷ 0x00 ∷ []
 
-abbrev pub runLater : Run (viewOf later) (periodic (viewOf later)) (heldAt (viewOf later) (periodic (viewOf later)) last-first (longest (viewOf later) 35))
+abbrev pub runLater : Run (viewOf later) (periodic (viewOf later))
+    (heldAt (viewOf later) (periodic (viewOf later)) last-first (longest (viewOf later) 35))
 runLater = played-run (viewOf later) (periodic (viewOf later)) last-first (longest (viewOf later) 35) last-first-any
 
 pub later-accepted : judge later 21 ≡ granted (21 ∷ [])
 unfolding definitions
 later-accepted = refl
 
-pub later-figures : (K (viewOf later) 0 ≡ 31) × (K (viewOf later) 1 ≡ 16) × (backlog (viewOf later) 1 ≡ 1776) × (endToEnd (viewOf later) 0 ≡ 52)
+pub later-figures : (K (viewOf later) 0 ≡ 31) × (K (viewOf later) 1 ≡ 16) × (backlog (viewOf later) 1 ≡ 1776)
+    × (endToEnd (viewOf later) 0 ≡ 52)
 unfolding definitions
 later-figures = (refl, refl, refl, refl)
 
@@ -197,9 +214,15 @@ later-takes = (refl, refl)
 -- then send the first channel's frame, then one of the second channel's in each slot; wire 3 is held when the first of them
 -- comes, and holds exactly its backlog in slot 49.
 abbrev pub crowded : List ℕ
-crowded = 0x00 ∷ 0x00 ∷ 0x60 ∷ 0x08 ∷ 0x0d ∷ 0x00 ∷ 0x00 ∷ 0x01 ∷ 0x9c ∷ 0x90 ∷ 0x00 ∷ 0x00 ∷ 0x19 ∷ 0xc9 ∷ 0x00 ∷ 0x00 ∷ 0x01 ∷ 0x9c ∷ 0x90 ∷ 0x00 ∷ 0x00 ∷ 0x27 ∷ 0xd8 ∷ 0x00 ∷ 0x32 ∷ 0x00 ∷ 0x00 ∷ 0x60 ∷ 0x00 ∷ 0x00 ∷ 0x21 ∷ 0x10 ∷ 0x00 ∷ 0x06 ∷ 0x40 ∷ 0x00 ∷ 0x0c ∷ 0x00 ∷ 0x00 ∷ 0x04 ∷ 0x22 ∷ 0x08 ∷ 0x00 ∷ 0xc8 ∷ 0x00 ∷ 0x01 ∷ 0x80 ∷ 0x00 ∷ 0x00 ∷ 0x84 ∷ 0x42 ∷ 0x00 ∷ 0x19 ∷ 0x00 ∷ 0x00 ∷ 0x01 ∷ 0x80 ∷ 0x00 ∷ 0x2a ∷ 0x10 ∷ 0x01 ∷ 0x80 ∷ 0x0c ∷ 0x80 ∷ 0x00 ∷ 0x00 ∷ 0xc0 ∷ 0x00 ∷ 0x15 ∷ 0x08 ∷ 0x10 ∷ 0xc0 ∷ 0x06 ∷ 0x40 ∷ 0x00 ∷ 0x00 ∷ 0x60 ∷ 0x00 ∷ 0x0a ∷ 0x84 ∷ 0x10 ∷ 0x60 ∷ []
+crowded =
+    0x00 ∷ 0x00 ∷ 0x60 ∷ 0x08 ∷ 0x0d ∷ 0x00 ∷ 0x00 ∷ 0x01 ∷ 0x9c ∷ 0x90 ∷ 0x00 ∷ 0x00 ∷ 0x19 ∷ 0xc9 ∷ 0x00 ∷ 0x00 ∷ 0x01 ∷ 0x9c
+    ∷ 0x90 ∷ 0x00 ∷ 0x00 ∷ 0x27 ∷ 0xd8 ∷ 0x00 ∷ 0x32 ∷ 0x00 ∷ 0x00 ∷ 0x60 ∷ 0x00 ∷ 0x00 ∷ 0x21 ∷ 0x10 ∷ 0x00 ∷ 0x06 ∷ 0x40
+    ∷ 0x00 ∷ 0x0c ∷ 0x00 ∷ 0x00 ∷ 0x04 ∷ 0x22 ∷ 0x08 ∷ 0x00 ∷ 0xc8 ∷ 0x00 ∷ 0x01 ∷ 0x80 ∷ 0x00 ∷ 0x00 ∷ 0x84 ∷ 0x42 ∷ 0x00
+    ∷ 0x19 ∷ 0x00 ∷ 0x00 ∷ 0x01 ∷ 0x80 ∷ 0x00 ∷ 0x2a ∷ 0x10 ∷ 0x01 ∷ 0x80 ∷ 0x0c ∷ 0x80 ∷ 0x00 ∷ 0x00 ∷ 0xc0 ∷ 0x00 ∷ 0x15
+    ∷ 0x08 ∷ 0x10 ∷ 0xc0 ∷ 0x06 ∷ 0x40 ∷ 0x00 ∷ 0x00 ∷ 0x60 ∷ 0x00 ∷ 0x0a ∷ 0x84 ∷ 0x10 ∷ 0x60 ∷ []
 
-abbrev pub runCrowded : Run (viewOf crowded) (periodic (viewOf crowded)) (heldAt (viewOf crowded) (periodic (viewOf crowded)) in-turn (longest (viewOf crowded) 34))
+abbrev pub runCrowded : Run (viewOf crowded) (periodic (viewOf crowded))
+    (heldAt (viewOf crowded) (periodic (viewOf crowded)) in-turn (longest (viewOf crowded) 34))
 runCrowded = played-run (viewOf crowded) (periodic (viewOf crowded)) in-turn (longest (viewOf crowded) 34) in-turn-any
 
 pub crowded-accepted : judge crowded 47 ≡ granted (47 ∷ [])
@@ -237,7 +260,9 @@ a-takes = (refl, refl)
 -- Two frames: H 100; two wires of rate 100, propagation 3 and 5; a channel of payload 1,493, period 100, route 0, 1. Nobody
 -- holds; the message is there with its second frame, not with its first.
 abbrev pub twoFrames : List ℕ
-twoFrames = 0x00 ∷ 0x00 ∷ 0x64 ∷ 0x04 ∷ 0x03 ∷ 0x00 ∷ 0x60 ∷ 0x02 ∷ 0x4f ∷ 0x50 ∷ 0x0a ∷ 0x00 ∷ 0x1f ∷ 0x38 ∷ 0x05 ∷ 0xd5 ∷ 0x00 ∷ 0x00 ∷ 0x64 ∷ 0x00 ∷ 0x00 ∷ 0x60 ∷ 0x20 ∷ 0x01 ∷ []
+twoFrames =
+    0x00 ∷ 0x00 ∷ 0x64 ∷ 0x04 ∷ 0x03 ∷ 0x00 ∷ 0x60 ∷ 0x02 ∷ 0x4f ∷ 0x50 ∷ 0x0a ∷ 0x00 ∷ 0x1f ∷ 0x38 ∷ 0x05 ∷ 0xd5 ∷ 0x00 ∷ 0x00
+    ∷ 0x64 ∷ 0x00 ∷ 0x00 ∷ 0x60 ∷ 0x20 ∷ 0x01 ∷ []
 
 abbrev pub runTwo : Run (viewOf twoFrames) (periodic (viewOf twoFrames)) nobody
 runTwo = alone-run (viewOf twoFrames) (periodic (viewOf twoFrames)) in-turn in-turn-any
@@ -264,7 +289,9 @@ two-whole = refl
 -- Three hops, with IP and UDP: H 20; three wires of rate 100, propagation 1, 2 and 0; a channel of framing 1, payload 1,465,
 -- period 20, route 0, 1, 2. Nobody holds.
 abbrev pub threeHops : List ℕ
-threeHops = 0x00 ∷ 0x00 ∷ 0x14 ∷ 0x06 ∷ 0x03 ∷ 0x00 ∷ 0x20 ∷ 0x02 ∷ 0x4f ∷ 0x50 ∷ 0x04 ∷ 0x00 ∷ 0x37 ∷ 0x29 ∷ 0x00 ∷ 0x00 ∷ 0x06 ∷ 0x3b ∷ 0xb0 ∷ 0x5b ∷ 0x90 ∷ 0x00 ∷ 0x01 ∷ 0x40 ∷ 0x00 ∷ 0x0f ∷ 0xa3 ∷ 0x00 ∷ 0x10 ∷ 0x80 ∷ []
+threeHops =
+    0x00 ∷ 0x00 ∷ 0x14 ∷ 0x06 ∷ 0x03 ∷ 0x00 ∷ 0x20 ∷ 0x02 ∷ 0x4f ∷ 0x50 ∷ 0x04 ∷ 0x00 ∷ 0x37 ∷ 0x29 ∷ 0x00 ∷ 0x00 ∷ 0x06 ∷ 0x3b
+    ∷ 0xb0 ∷ 0x5b ∷ 0x90 ∷ 0x00 ∷ 0x01 ∷ 0x40 ∷ 0x00 ∷ 0x0f ∷ 0xa3 ∷ 0x00 ∷ 0x10 ∷ 0x80 ∷ []
 
 -- Not periodic, and once less than is declared: 10 bytes in slot 1, the whole payload 23 slots later, and nothing more.
 unfoldable pub sparse : Releases
@@ -346,7 +373,8 @@ b-load = refl
 -- A load one over: H 89, rate 1, one message of 90 bytes in 89 slots.
 pub over : List ℕ
 over =
-    0x00 ∷ 0x00 ∷ 0x59 ∷ 0x02 ∷ 0x02 ∷ 0x00 ∷ 0x00 ∷ 0x09 ∷ 0xc4 ∷ 0x00 ∷ 0x02 ∷ 0x80 ∷ 0x00 ∷ 0x05 ∷ 0x90 ∷ 0x02 ∷ 0x71 ∷ 0x01 ∷ 0x00 ∷ []
+    0x00 ∷ 0x00 ∷ 0x59 ∷ 0x02 ∷ 0x02 ∷ 0x00 ∷ 0x00 ∷ 0x09 ∷ 0xc4 ∷ 0x00 ∷ 0x02 ∷ 0x80 ∷ 0x00 ∷ 0x05 ∷ 0x90 ∷ 0x02 ∷ 0x71
+    ∷ 0x01 ∷ 0x00 ∷ []
 
 pub one-over : judge over 12 ≡ refused 12 0
 unfolding over definitions

@@ -17,7 +17,8 @@ use Rattle.rules.specs.Judgement.{lengthOf, judge, sheet, leaves, buffer
 use Rattle.rules.specs.Incident.{Always, NoSheet, Answers, AnswersOf, LeavesNoSheet}
 use Rattle.rules.proofs.Sheet.Replies.{Counted, tests-short, tests-length, tests-pass}
 use Rattle.rules.specs.Fits.{Fits}
-use Rattle.rules.proofs.Sheet.Laws.{sheet-shortest, length-sheetOf, bytes-sheetOf, filling-sheetOf, wires-sheetOf, channels-sheetOf, backlog-sheetOf, delay-sheetOf, end-sheetOf}
+use Rattle.rules.proofs.Sheet.Laws.{sheet-shortest, length-sheetOf, bytes-sheetOf, filling-sheetOf}
+use Rattle.rules.proofs.Sheet.Laws.{wires-sheetOf, channels-sheetOf, backlog-sheetOf, delay-sheetOf, end-sheetOf}
 
 always : (s : List ℕ) (r : Reply) → ((rest : Reply) → sheetTests s rest ≡ r) → Always s r
 unfolding askWire askChannel
@@ -53,7 +54,9 @@ module _ (n m : ℕ) (b d e : ℕ → ℕ) (fits : Fits n m b d e) where
       let wires : sheetWires (sheetOf n m b d e) ≡ n = wires-sheetOf n m b d e fits in
       let channels : sheetChannels (sheetOf n m b d e) ≡ m = channels-sheetOf n m b d e fits in
       record {
-        wire = λ w l. tests-sheetOf _ ∙ rw (wires, lt-ltb w n l, backlog-sheetOf n m b d e fits w l, delay-sheetOf n m b d e fits w l);
+        wire =
+            λ w l. tests-sheetOf _
+            ∙ rw (wires, lt-ltb w n l, backlog-sheetOf n m b d e fits w l, delay-sheetOf n m b d e fits w l);
         no-wire = λ w l. tests-sheetOf _ ∙ rw (wires, le-ltb w n l);
         channel = λ k l. tests-sheetOf _ ∙ rw (wires, channels, lt-ltb k m l, end-sheetOf n m b d e fits k l);
         no-channel = λ k l. tests-sheetOf _ ∙ rw (channels, le-ltb k m l);
@@ -70,7 +73,8 @@ module _ (n m : ℕ) (b d e : ℕ → ℕ) (fits : Fits n m b d e) where
       let channels : sheetChannels (s ++ t) ≡ m
       = field-append s t wiresBits channelsBits (omega arith) ∙ channels-sheetOf n m b d e fits in
       always (s ++ t) (refused 16 0) (λ rest.
-      tests-length (s ++ t) rest (counted (s ++ t) (omega arith) wires channels) (endAt n m) (ap₂ endAt (sym wires) (sym channels))
+      tests-length (s ++ t) rest (counted (s ++ t) (omega arith) wires channels) (endAt n m)
+      (ap₂ endAt (sym wires) (sym channels))
       (λ q. omega (arith, length-sheetOf n m b d e)))
 
 -- ---- what a refusal left

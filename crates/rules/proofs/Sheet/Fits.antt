@@ -20,8 +20,10 @@ pub delay-le : (t : View) (w : ℕ) → 1 ≤ t .rate w → delay t w ≤ backlo
 unfolding delay delayAfter backlog
 delay-le t w l = up-le _ (t .rate w) l
 
-module _ (t : View) (sound : Sound t) (rooms : (w : ℕ) → t .room w < 2 ^ roomBits) (deadlines : (k : ℕ) → t .deadline k < 2 ^ deadlineBits)
-    (roomy : (w : ℕ) → w < t .wires → backlog t w ≤ t .room w) (timely : (k : ℕ) → k < t .channels → endToEnd t k ≤ t .deadline k) where
+module _ (t : View) (sound : Sound t) (rooms : (w : ℕ) → t .room w < 2 ^ roomBits)
+    (deadlines : (k : ℕ) → t .deadline k < 2 ^ deadlineBits)
+    (roomy : (w : ℕ) → w < t .wires → backlog t w ≤ t .room w)
+    (timely : (k : ℕ) → k < t .channels → endToEnd t k ≤ t .deadline k) where
   pub fits-sheet : FitsSheet t
   fits-sheet =
       record {
@@ -37,4 +39,5 @@ module _ (t : View) (sound : Sound t) (rooms : (w : ℕ) → t .room w < 2 ^ roo
 pub fits-view : (s : List ℕ) → Sound (viewOf s) → ((w : ℕ) → w < viewOf s .wires → backlog (viewOf s) w ≤ viewOf s .room w)
     → ((k : ℕ) → k < viewOf s .channels → endToEnd (viewOf s) k ≤ viewOf s .deadline k) → FitsSheet (viewOf s)
 unfolding roomOf deadlineAt
-fits-view s sound roomy timely = fits-sheet (viewOf s) sound (λ w. field-lt s _ roomBits) (λ k. field-lt s _ deadlineBits) roomy timely
+fits-view s sound roomy timely =
+    fits-sheet (viewOf s) sound (λ w. field-lt s _ roomBits) (λ k. field-lt s _ deadlineBits) roomy timely

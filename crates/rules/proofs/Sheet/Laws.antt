@@ -8,10 +8,12 @@ use native.Mathlib.Omega.{arith}
 use lib.ListN.{length, replicate, length-replicate}
 use Rattle.bits.specs.Field.{field, putField, Bytes}
 use Rattle.bits.proofs.Laws.{length-putField, field-putField, field-putField-other, field-zeros, bytes-putField}
-use Rattle.rules.specs.Numbers.{wiresBits, wiresMost, channelsBits, channelsMost, backlogBits, delayBits, endBits, sheetLongest}
+use Rattle.rules.specs.Numbers.{wiresBits, wiresMost, channelsBits, channelsMost}
+use Rattle.rules.specs.Numbers.{backlogBits, delayBits, endBits, sheetLongest}
 use Rattle.rules.specs.Table.{fillingOf}
 use Rattle.rules.specs.Fits.{Fits}
-use Rattle.rules.specs.Sheet.{figuresAt, endAt, sheetLength, withHead, withWires, withChannels, sheetOf, sheetWires, sheetChannels}
+use Rattle.rules.specs.Sheet.{figuresAt, endAt, sheetLength, withHead, withWires}
+use Rattle.rules.specs.Sheet.{withChannels, sheetOf, sheetWires, sheetChannels}
 
 -- ---- writing from one place to another
 

@@ -145,7 +145,8 @@ module _ (s : List ℕ) (goes-on : (rest : Reply) → sheetTests s rest ≡ rest
   passed-counts =
       let two : 2 ≤ length s = holds (decLe 2 (length s)) (λ o. tests-short s _ (omega arith)) in
       let some : 1 ≤ sheetWires s = holds (decLe 1 (sheetWires s)) (λ o. tests-wires s _ two (inl (omega arith))) in
-      let few : sheetWires s ≤ wiresMost = holds (decLe (sheetWires s) wiresMost) (λ o. tests-wires s _ two (inr (omega arith))) in
+      let few : sheetWires s ≤ wiresMost
+      = holds (decLe (sheetWires s) wiresMost) (λ o. tests-wires s _ two (inr (omega arith))) in
       record {
         two-bytes = two;
         wires-least = some;

@@ -4,7 +4,8 @@ use mathlib.Core.List.{List, [], _∷_}
 use Prim.Native.Nat.{ℕ, zero, suc, _+_, _-_, _*_, _/_, _%_, _≤_, _<_}
 use native.Mathlib.Omega.{arith}
 use native.Mathlib.Decide.{decLt, ℕ-discrete}
-use lib.ListN.{length, getD, set, replicate, length-append, length-set, length-replicate, getD-replicate, List·getD-append, List·getD-eq-default}
+use lib.ListN.{length, getD, set, replicate, length-append, length-set}
+use lib.ListN.{length-replicate, getD-replicate, List·getD-append, List·getD-eq-default}
 use lib.Seq.{ext-getD, getD-at, getD-set-same, getD-set-other}
 use lib.Dec.{ltb}
 use borrow.Author.Tests.{lt-ltb, le-ltb}
@@ -55,9 +56,11 @@ module _ (places : ℕ) (f : ℕ → ℕ) where
 
   pub column-none : replicate places 0 ≡ column places 0 f
   column-none =
-      column-told 0 (replicate places 0) (length-replicate places 0) (λ i l h. absurd (omega arith)) (λ i l h. getD-replicate places i 0 0 h)
+      column-told 0 (replicate places 0) (length-replicate places 0) (λ i l h. absurd (omega arith))
+      (λ i l h. getD-replicate places i 0 0 h)
 
-  pub column-set : (n : ℕ) {x : ℕ} {a : List ℕ} → n < places → a ≡ column places n f → x ≡ f n → set a n x ≡ column places (n + 1) f
+  pub column-set : (n : ℕ) {x : ℕ} {a : List ℕ} → n < places → a ≡ column places n f → x ≡ f n
+      → set a n x ≡ column places (n + 1) f
   column-set n {x} {a} h q e =
       let long : length a ≡ places = ap length q ∙ length-column n in
       column-told (n + 1) (set a n x) (length-set a n x ∙ long)

@@ -13,15 +13,19 @@ use borrow.Author.Tests.{le-leb, lt-leb}
 use Rattle.bits.specs.Field.{bit, field, within, Bytes}
 use Rattle.bits.proofs.Laws.{field-take, field-bits, bits-eq}
 use Rattle.rules.specs.Words.{up, between}
-use Rattle.rules.specs.Numbers.{rates, hyperBits, hyperMost, wiresBits, wiresMost, channelsBits, channelsMost, headBits, rateBits, propBits, roomBits, wireBits, framingBits, payloadBits, periodBits, deadlineBits, hopsBits, hopsMost, fixedBits, hopBits, tableLongest}
+use Rattle.rules.specs.Numbers.{rates, hyperBits, hyperMost, wiresBits, wiresMost, channelsBits, channelsMost}
+use Rattle.rules.specs.Numbers.{headBits, rateBits, propBits, roomBits, wireBits, framingBits, payloadBits}
+use Rattle.rules.specs.Numbers.{periodBits, deadlineBits, hopsBits, hopsMost, fixedBits, hopBits, tableLongest}
 use Rattle.rules.specs.Replies.{Reply, granted, refused, test, each}
-use Rattle.rules.specs.Table.{View, viewOf, hyperOf, wiresOf, channelsOf, wireAt, codeOf, rateOf, propOf, roomOf, channelAt, framingAt, payloadAt, periodAt, deadlineAt, hopsAt, routeAt, endOf, fillingOf}
+use Rattle.rules.specs.Table.{View, viewOf, hyperOf, wiresOf, channelsOf, wireAt, codeOf, rateOf, propOf, roomOf}
+use Rattle.rules.specs.Table.{channelAt, framingAt, payloadAt, periodAt, deadlineAt, hopsAt, routeAt, endOf, fillingOf}
 use Rattle.rules.specs.Channel.{valueTests, hopTests}
 use Rattle.rules.specs.Reading.{headTests, wireTests, recordTests, channelTests, fillingTests, readingTests, reading}
 use Rattle.rules.specs.Judgement.{judge}
 use Rattle.rules.specs.Incident.{PrefixesRefused, ExtensionsRefused, LongerAlike, SameView, OneString}
 use Rattle.rules.proofs.Tests.{Through, Stops, Gate, through, stops, gate-through, lt-gate, between-gate}
-use Rattle.rules.proofs.Tables.Laws.{HeadPasses, Passes, value-gate, hop-gate, fieldsTests, fields-gate, reading-passes, length-route, end-inside, length-told}
+use Rattle.rules.proofs.Tables.Laws.{HeadPasses, Passes, value-gate, hop-gate, fieldsTests}
+use Rattle.rules.proofs.Tables.Laws.{fields-gate, reading-passes, length-route, end-inside, length-told}
 
 -- ---- two chains of tests side by side
 
@@ -96,10 +100,12 @@ module _ (s : List ℕ) (k : ℕ) (le : k ≤ length s) where
   unfolding routeAt
   route-fields at zero l = refl
   route-fields at (suc left) l =
-      ap₂ (λ (x : ℕ) (xs : List ℕ). x ∷ xs) (field-take s k at hopBits (omega arith)) (route-fields (at + hopBits) left (omega arith))
+      ap₂ (λ (x : ℕ) (xs : List ℕ). x ∷ xs) (field-take s k at hopBits (omega arith))
+      (route-fields (at + hopBits) left (omega arith))
 
   fixed-fields : (at : ℕ) → at + fixedBits ≤ 8 * k
-      → (payloadAt (take k s) at ≡ payloadAt s at) × (periodAt (take k s) at ≡ periodAt s at) × (hopsAt (take k s) at ≡ hopsAt s at)
+      → (payloadAt (take k s) at ≡ payloadAt s at) × (periodAt (take k s) at ≡ periodAt s at)
+      × (hopsAt (take k s) at ≡ hopsAt s at)
   unfolding payloadAt periodAt hopsAt
   fixed-fields at l =
       (field-take s k _ _ (omega arith), field-take s k _ _ (omega arith), field-take s k _ _ (omega arith))
@@ -113,8 +119,10 @@ module _ (s : List ℕ) (k : ℕ) (le : k ≤ length s) where
   head-alike =
       alike-then (within-alike 0 headBits headBits refl (omega arith)) (λ l.
       let same = head-fields l in
-      alike-then (test-alike 2 0 (between-gate 2 0 1 (hyperOf s) hyperMost) (ap (λ (x : ℕ). between 1 x hyperMost) (same .0))) (λ h.
-      alike-then (test-alike 3 0 (between-gate 3 0 1 (wiresOf s) wiresMost) (ap (λ (x : ℕ). between 1 x wiresMost) (same .1))) (λ n.
+      alike-then
+      (test-alike 2 0 (between-gate 2 0 1 (hyperOf s) hyperMost) (ap (λ (x : ℕ). between 1 x hyperMost) (same .0))) (λ h.
+      alike-then
+      (test-alike 3 0 (between-gate 3 0 1 (wiresOf s) wiresMost) (ap (λ (x : ℕ). between 1 x wiresMost) (same .1))) (λ n.
       alike-map
       (λ m. (
         record {
@@ -152,7 +160,10 @@ module _ (s : List ℕ) (k : ℕ) (le : k ≤ length s) where
       {g = valueTests c (hyperOf (take k s)) (payloadAt (take k s) at) (periodAt (take k s) at) (hopsAt (take k s) at)}
       (value-gate c (hyperOf s) (payloadAt s at) (periodAt s at) (hopsAt s at))
       (λ rest. rw (head .0, same .0, same .1, same .2))) (λ h.
-      alike-then (within-alike (at + fixedBits) (hopBits * hopsAt s at) (hopBits * hopsAt (take k s) at) (ap (λ (x : ℕ). hopBits * x) (same .2)) (omega arith)) (λ m.
+      alike-then
+      (within-alike (at + fixedBits) (hopBits * hopsAt s at) (hopBits * hopsAt (take k s) at)
+      (ap (λ (x : ℕ). hopBits * x) (same .2)) (omega arith))
+      (λ m.
       alike-map (λ _. (same .2, h .hops-most, m))
       (gate-alike
       {g = hopTests (wiresOf (take k s)) c 0 (routeAt (take k s) (at + fixedBits) (hopsAt (take k s) at))}
@@ -164,7 +175,8 @@ module _ (s : List ℕ) (k : ℕ) (le : k ≤ length s) where
   unfolding channelAt channelTests
   channel-alike i c less r =
       subst
-      (λ (at : ℕ). Alike (Reached s (take k s) k (suc c)) (8 * k < longestEnd) (recordTests s c (channelAt s c)) (recordTests (take k s) c at))
+      (λ (at : ℕ). Alike (Reached s (take k s) k (suc c)) (8 * k < longestEnd) (recordTests s c (channelAt s c))
+      (recordTests (take k s) c at))
       (sym (r .alike))
       (alike-map
       (λ x. record {
@@ -283,7 +295,9 @@ module _ (s t : List ℕ) where
 
   agree-head : hyperOf s ≡ hyperOf t → wiresOf s ≡ wiresOf t → channelsOf s ≡ channelsOf t → Agree s t (wireAt 0)
   unfolding hyperOf wiresOf channelsOf wireAt
-  agree-head h n m = agree-field (hyperBits + wiresBits) channelsBits (agree-field hyperBits wiresBits (agree-field 0 hyperBits (λ i l. absurd (omega arith)) h) n) m
+  agree-head h n m =
+      agree-field (hyperBits + wiresBits) channelsBits
+      (agree-field hyperBits wiresBits (agree-field 0 hyperBits (λ i l. absurd (omega arith)) h) n) m
 
   same-code : (w : ℕ) → codeOf s w < length rates → codeOf t w < length rates → rateOf s w ≡ rateOf t w → codeOf s w ≡ codeOf t w
   unfolding rateOf
@@ -294,7 +308,8 @@ module _ (s t : List ℕ) where
       → Agree s t (wireAt w) → Agree s t (wireAt (suc w))
   unfolding codeOf propOf roomOf wireAt
   agree-wire w c p r a i l =
-      agree-field (wireAt w + rateBits + propBits) roomBits (agree-field (wireAt w + rateBits) propBits (agree-field (wireAt w) rateBits a c) p) r i (omega arith)
+      agree-field (wireAt w + rateBits + propBits) roomBits
+      (agree-field (wireAt w + rateBits) propBits (agree-field (wireAt w) rateBits a c) p) r i (omega arith)
 
   agree-route : (at left : ℕ) → routeAt s at left ≡ routeAt t at left → Agree s t at → Agree s t (at + hopBits * left)
   unfolding routeAt
@@ -336,10 +351,18 @@ module _ (s t : List ℕ) where
     agree-channels (suc c) l =
         let before = agree-channels c (omega arith) in
         let here : SameRecord s t (channelAt s c) (channelAt s c)
-        = subst (λ (at : ℕ). SameRecord s t (channelAt s c) at) (sym (before .0))
-        (e .framing c (omega arith), e .payload c (omega arith), e .period c (omega arith), e .deadline c (omega arith), e .route c (omega arith)) in
-        let after = agree-record (channelAt s c) here (before .1) in
-        (ap₂ (λ (at hops : ℕ). at + fixedBits + hopBits * hops) (before .0) (after .0 ∙ ap (λ (at : ℕ). hopsAt t at) (before .0)), after .1)
+        = subst (λ (at : ℕ). SameRecord s t (channelAt s c) at) (sym (before .0)) (
+          e .framing c (omega arith),
+          e .payload c (omega arith),
+          e .period c (omega arith),
+          e .deadline c (omega arith),
+          e .route c (omega arith),
+        ) in
+        let after = agree-record (channelAt s c) here (before .1) in (
+          ap₂ (λ (at hops : ℕ). at + fixedBits + hopBits * hops) (before .0)
+              (after .0 ∙ ap (λ (at : ℕ). hopsAt t at) (before .0)),
+          after .1,
+        )
 
     same-string : Bytes s → Bytes t → s ≡ t
     unfolding endOf fillingOf

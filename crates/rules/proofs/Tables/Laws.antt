@@ -8,12 +8,15 @@ use lib.ListN.{length, getD}
 use lib.Dec.{ltb, eqb}
 use Rattle.bits.proofs.Laws.{field-lt}
 use Rattle.rules.specs.Words.{up}
-use Rattle.rules.specs.Numbers.{rates, hyperMost, wiresMost, channelsMost, payloadMost, hopsMost, headBits, wireBits, fixedBits, hopBits}
+use Rattle.rules.specs.Numbers.{rates, hyperMost, wiresMost, channelsMost, payloadMost}
+use Rattle.rules.specs.Numbers.{hopsMost, headBits, wireBits, fixedBits, hopBits}
 use Rattle.rules.specs.Replies.{Reply, granted, refused, test, each}
-use Rattle.rules.specs.Table.{viewOf, hyperOf, wiresOf, channelsOf, wireAt, codeOf, rateOf, channelAt, framingAt, payloadAt, periodAt, hopsAt, routeAt, endOf, fillingOf}
+use Rattle.rules.specs.Table.{viewOf, hyperOf, wiresOf, channelsOf, wireAt, codeOf, rateOf, channelAt}
+use Rattle.rules.specs.Table.{framingAt, payloadAt, periodAt, hopsAt, routeAt, endOf, fillingOf}
 use Rattle.rules.specs.Channel.{divides, valueTests, hopTests}
 use Rattle.rules.specs.Reading.{headTests, wireTests, recordTests, channelTests, fillingTests, readingTests, reading}
-use Rattle.rules.proofs.Tests.{Gate, through, gate-granted, gate-refused, gate-through, gate-iff, gate-then, le-gate, lt-gate, eq-gate, both-gate, between-gate, all-gate}
+use Rattle.rules.proofs.Tests.{Gate, through, gate-granted, gate-refused, gate-through, gate-iff}
+use Rattle.rules.proofs.Tests.{gate-then, le-gate, lt-gate, eq-gate, both-gate, between-gate, all-gate}
 use Rattle.rules.specs.Sound.{Climbs, Sound}
 
 -- 1 to 4
@@ -76,7 +79,10 @@ module _ (s : List ℕ) where
         channels-least = h .1 .1 .1 .0;
         channels-most = h .1 .1 .1 .1;
       })
-      (λ r. (r .inside, ((r .hyper-least, r .hyper-most), ((r .wires-least, r .wires-most), (r .channels-least, r .channels-most)))))
+      (λ r. (
+        r .inside,
+        ((r .hyper-least, r .hyper-most), ((r .wires-least, r .wires-most), (r .channels-least, r .channels-most))),
+      ))
       (gate-then (le-gate 1 0 _ _)
       (gate-then (between-gate 2 0 _ _ _)
       (gate-then (between-gate 3 0 _ _ _) (between-gate 4 0 _ _ _))))
@@ -90,7 +96,8 @@ module _ (s : List ℕ) where
 pub divides-gate : (n p a b : ℕ) → Gate ((0 < a) × (b % a ≡ 0)) (test (divides a b) n p)
 divides-gate n p a b = both-gate n p (ltb 0 a) (eqb (b % a) 0) (lt-gate n p 0 a) (eq-gate n p (b % a) 0)
 
-pub value-gate : (c hyper payload period hops : ℕ) → Gate (ValuesPass hyper payload period hops) (valueTests c hyper payload period hops)
+pub value-gate : (c hyper payload period hops : ℕ)
+    → Gate (ValuesPass hyper payload period hops) (valueTests c hyper payload period hops)
 unfolding valueTests
 value-gate c hyper payload period hops =
     gate-iff

@@ -13,9 +13,11 @@ use borrow.Author.Tests.{lt-leb, le-ltb, ne-eqb}
 use Rattle.bits.specs.Field.{field}
 use Rattle.bits.proofs.Laws.{field-lt}
 use Rattle.rules.specs.Words.{between, up}
-use Rattle.rules.specs.Numbers.{rates, hyperMost, wiresMost, channelsMost, payloadMost, framingBits, payloadBits, hopsMost, headBits, wireBits, fixedBits, hopBits}
+use Rattle.rules.specs.Numbers.{rates, hyperMost, wiresMost, channelsMost, payloadMost, framingBits}
+use Rattle.rules.specs.Numbers.{payloadBits, hopsMost, headBits, wireBits, fixedBits, hopBits}
 use Rattle.rules.specs.Replies.{Reply, test, each}
-use Rattle.rules.specs.Table.{hyperOf, wiresOf, channelsOf, wireAt, codeOf, channelAt, payloadAt, periodAt, hopsAt, routeAt, endOf, fillingOf}
+use Rattle.rules.specs.Table.{hyperOf, wiresOf, channelsOf, wireAt, codeOf, channelAt}
+use Rattle.rules.specs.Table.{payloadAt, periodAt, hopsAt, routeAt, endOf, fillingOf}
 use Rattle.rules.specs.Channel.{divides, valueTests, hopTests, routeTests}
 use Rattle.rules.specs.Reading.{headTests, wireTests, recordTests, channelTests, fillingTests}
 use Rattle.rules.proofs.Tests.{Through, Stops, gate-through, le-gate, lt-gate, between-gate}
@@ -92,7 +94,8 @@ module _ (f : ℕ → Reply → Reply) where
 module _ (s : List ℕ) (n c at h : ℕ) where
   -- the search over a route of h hops from its start is the search from hop i
   abbrev pub HopsHere : ℕ → ℕ → Type 0
-  HopsHere i least = (rest : Reply) → hopTests n c 0 (routeAt s at h) rest ≡ hopTests n c least (routeAt s (at + hopBits * i) (h - i)) rest
+  HopsHere i least =
+      (rest : Reply) → hopTests n c 0 (routeAt s at h) rest ≡ hopTests n c least (routeAt s (at + hopBits * i) (h - i)) rest
 
   pub hops-start : HopsHere 0 0
   hops-start rest =
@@ -202,7 +205,8 @@ module _ (c hyper payload period hops : ℕ) where
     unfolding valueTests
     values-7 o rest = gate-through (between-gate 6 c 1 payload payloadMost) fine _ ∙ divides-stops 7 c period hyper o _
 
-    pub values-8 : (0 < period) × (hyper % period ≡ 0) → Outside 1 hops hopsMost → Stops (valueTests c hyper payload period hops) 8 c
+    pub values-8 : (0 < period) × (hyper % period ≡ 0) → Outside 1 hops hopsMost
+        → Stops (valueTests c hyper payload period hops) 8 c
     unfolding valueTests
     values-8 divided o rest =
         gate-through (between-gate 6 c 1 payload payloadMost) fine _
@@ -222,7 +226,8 @@ module _ (s : List ℕ) (c at : ℕ) where
 
   module _ (inside : at + fixedBits ≤ 8 * length s) where
     -- what the values are refused for, the record is
-    record-stops : {n p : ℕ} → Stops (valueTests c (hyperOf s) (payloadAt s at) (periodAt s at) (hopsAt s at)) n p → Stops (recordTests s c at) n p
+    record-stops : {n p : ℕ} → Stops (valueTests c (hyperOf s) (payloadAt s at) (periodAt s at) (hopsAt s at)) n p
+        → Stops (recordTests s c at) n p
     unfolding recordTests
     record-stops h rest = gate-through (le-gate 1 0 _ _) inside _ ∙ h _
 
@@ -255,7 +260,8 @@ module _ (s : List ℕ) (c at : ℕ) where
           record-route l rest = gate-through (le-gate 1 0 _ _) inside _ ∙ values _ ∙ le-stops 1 0 _ _ l _
 
           pub record-hops : at + fixedBits + hopBits * hopsAt s at ≤ 8 * length s
-              → (rest : Reply) → recordTests s c at rest ≡ routeTests (wiresOf s) c (routeAt s (at + fixedBits) (hopsAt s at)) rest
+              → (rest : Reply)
+              → recordTests s c at rest ≡ routeTests (wiresOf s) c (routeAt s (at + fixedBits) (hopsAt s at)) rest
           unfolding recordTests
           record-hops route rest = gate-through (le-gate 1 0 _ _) inside _ ∙ values _ ∙ gate-through (le-gate 1 0 _ _) route _
 

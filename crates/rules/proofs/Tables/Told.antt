@@ -58,5 +58,6 @@ pub hop-at : (t : View) → Sound t → (a : List ℕ) → a ≡ column routesMo
     → (k i : ℕ) → k < t .channels → i < length (t .route k) → getD a (hopsMost * k + i) 0 ≡ getD (t .route k) i 0
 hop-at t sound a e k i l h =
     let short : i < hopsMost = omega (arith, sound .hops-most k l) in
-    entry-at routesMost (t .channels * hopsMost) (hopOf t) a e (omega (arith, sound .channels-most)) (hopsMost * k + i) (omega arith)
+    entry-at routesMost (t .channels * hopsMost) (hopOf t) a e (omega (arith, sound .channels-most))
+    (hopsMost * k + i) (omega arith)
     ∙ ap₂ (λ (x y : ℕ). getD (t .route x) y 0) (omega arith) (omega arith)
