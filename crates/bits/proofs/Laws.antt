@@ -4,7 +4,8 @@ use mathlib.Core.Logic.{_≢_, _⊎_, inl, inr}
 use mathlib.Core.Bool.{Bool, true, false, _&&_, cond}
 use mathlib.Core.List.{List, _++_}
 use Prim.Native.Nat.{ℕ, zero, suc, _+_, _-_, _*_, _/_, _%_, _^_, _≤_, _<_}
-use native.Mathlib.Nat.{zero-lt-suc, le-dest, add-zero, add-suc, pow-suc, zero-div, mod-lt, mod-eq-of-lt, mul-le-mul-right, mul-add-div-right, mul-add-mod-self-right}
+use native.Mathlib.Nat.{zero-lt-suc, le-dest, add-zero, add-suc, pow-suc, zero-div, mod-lt}
+use native.Mathlib.Nat.{mod-eq-of-lt, mul-le-mul-right, mul-add-div-right, mul-add-mod-self-right}
 use native.Mathlib.Decide.{ℕ-discrete, decLt}
 use native.Mathlib.Omega.{arith}
 use lib.ListN.{length, getD, set, take, replicate, length-set, List·getD-eq-default, List·getD-append}
@@ -13,7 +14,8 @@ use lib.Dec.{leb}
 use lib.Arith.{digits-lt, digits-mod}
 use lib.Pow.{pow-pos, pow-add, shr-lt, shr-shr, split, high, mod-pow-add}
 use borrow.Author.Tests.{le-leb, leb-true, lt-ltb}
-use Rattle.bits.specs.Field.{bit, field, within, byteWith, putBit, putField, Bytes, widest, served, takenOf, numberOf, fieldFits, wroteField}
+use Rattle.bits.specs.Field.{bit, field, within, byteWith, putBit, putField, Bytes}
+use Rattle.bits.specs.Field.{widest, served, takenOf, numberOf, fieldFits, wroteField}
 use Rattle.bits.specs.declared.Taken.the-variants.{Number, Nothing}
 
 -- ---- one binary digit of a number
@@ -52,12 +54,16 @@ module _ (x k b : ℕ) (two : b < 2) where
         let e : suc d + j ≡ k = omega (arith, le-dest l .1) in
         let cut : (h : ℕ) → (h * 2 ^ k + x % 2 ^ k) / 2 ^ j % 2 ≡ x % 2 ^ k / 2 ^ j % 2
         = λ h. subst (λ (m : ℕ). (h * 2 ^ m + x % 2 ^ k) / 2 ^ j % 2 ≡ x % 2 ^ k / 2 ^ j % 2) e (digit-low h (x % 2 ^ k) j d) in
-        ap (λ (y : ℕ). y / 2 ^ j % 2) byte-low ∙ cut (x / 2 ^ suc k * 2 + b) ∙ sym (cut (x / 2 ^ k)) ∙ ap (λ (y : ℕ). y / 2 ^ j % 2) (split x k)
+        ap (λ (y : ℕ). y / 2 ^ j % 2) byte-low
+        ∙ cut (x / 2 ^ suc k * 2 + b)
+        ∙ sym (cut (x / 2 ^ k))
+        ∙ ap (λ (y : ℕ). y / 2 ^ j % 2) (split x k)
     | no n ↦
         let l : k < j = omega arith in
         let d : ℕ = le-dest l .0 in
         subst (λ (m : ℕ). byteWith x k b / 2 ^ m % 2 ≡ x / 2 ^ m % 2) (le-dest l .1)
-        (ap (λ (y : ℕ). y % 2) (sym (shr-shr (byteWith x k b) (suc k) d) ∙ ap (λ (y : ℕ). y / 2 ^ d) byte-high ∙ shr-shr x (suc k) d))
+        (ap (λ (y : ℕ). y % 2)
+        (sym (shr-shr (byteWith x k b) (suc k) d) ∙ ap (λ (y : ℕ). y / 2 ^ d) byte-high ∙ shr-shr x (suc k) d))
   ]
 
   -- the old digit is taken away and the new one put there
@@ -265,7 +271,8 @@ bit-putField-other s at (suc w) v i o =
     (λ e. elim o [ inl l ↦ omega arith | inr l ↦ omega arith ])
     ∙ bit-putField-other s at w (v / 2) i (elim o [ inl l ↦ inl l | inr l ↦ inr (omega arith) ])
 
-pub field-putField-other : (s : List ℕ) (at w v at' w' : ℕ) → (at' + w' ≤ at) ⊎ (at + w ≤ at') → field (putField s at w v) at' w' ≡ field s at' w'
+pub field-putField-other : (s : List ℕ) (at w v at' w' : ℕ) → (at' + w' ≤ at) ⊎ (at + w ≤ at')
+    → field (putField s at w v) at' w' ≡ field s at' w'
 field-putField-other s at w v at' w' o =
     field-cong (putField s at w v) s at' w' (λ i l h.
     bit-putField-other s at w v i (elim o [ inl a ↦ inl (omega arith) | inr a ↦ inr (omega arith) ]))
@@ -279,13 +286,15 @@ field-putField s at (suc w) v h l =
     let n : length p ≡ length s = length-putField s at w (v / 2) in
     let b : bit (putBit p (at + w) (v % 2)) (at + w) ≡ v % 2 = bit-putBit p (at + w) (v % 2) (omega arith) (omega arith) in
     let q : field (putBit p (at + w) (v % 2)) at w ≡ field p at w
-    = field-cong (putBit p (at + w) (v % 2)) p at w (λ i a z. bit-putBit-other p (at + w) (v % 2) i (omega arith) (λ e. omega arith)) in
+    = field-cong (putBit p (at + w) (v % 2)) p at w
+    (λ i a z. bit-putBit-other p (at + w) (v % 2) i (omega arith) (λ e. omega arith)) in
     omega (arith, q, b, field-putField s at w (v / 2) (omega arith) (omega (arith, pow-suc 2 w)))
 
 pub bytes-putField : (s : List ℕ) (at w v : ℕ) → Bytes s → Bytes (putField s at w v)
 unfolding putField
 bytes-putField s at zero v h = h
-bytes-putField s at (suc w) v h = bytes-putBit (putField s at w (v / 2)) (at + w) (v % 2) (omega arith) (bytes-putField s at w (v / 2) h)
+bytes-putField s at (suc w) v h =
+    bytes-putBit (putField s at w (v / 2)) (at + w) (v % 2) (omega arith) (bytes-putField s at w (v / 2) h)
 
 -- ---- the replies
 
@@ -301,7 +310,8 @@ number true n v e = (refl, cc)
 number false n v e = (cc, cc)
 
 -- a number that was read is the field's, which is served
-pub takenOf-is : (s : List ℕ) (at w v : ℕ) → takenOf s at w ≡ Number v → (v ≡ field s at w) × (w ≤ widest) × (at + w ≤ 8 * length s)
+pub takenOf-is : (s : List ℕ) (at w v : ℕ) → takenOf s at w ≡ Number v
+    → (v ≡ field s at w) × (w ≤ widest) × (at + w ≤ 8 * length s)
 takenOf-is s at w v e =
     let n : (served s at w ≡ true) × (v ≡ field s at w) = number (served s at w) (field s at w) v e in
     let b : (leb w widest ≡ true) × (within s at w ≡ true) = both (leb w widest) (within s at w) (n .0) in

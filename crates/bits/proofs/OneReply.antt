@@ -25,27 +25,33 @@ use Rattle.bits.proofs.read as read
 use Rattle.bits.proofs.write as write
 
 module _ (κs : Lfts 0) where
-  pub wide-one : (a : ArgsD wide.signature κs) (r r' : ResD wide.signature κs) (e e' : AtExit (endedOf 0 wide-kinds.ps wide-kinds.r) κs)
+  pub wide-one : (a : ArgsD wide.signature κs) (r r' : ResD wide.signature κs)
+      (e e' : AtExit (endedOf 0 wide-kinds.ps wide-kinds.r) κs)
       → wide-reads.Post κs a r e → wide-reads.Post κs a r' e' → r ≡ r'
   wide-one a r r' e e' p q = p ∙ sym q
 
 module _ (κs : Lfts 1) where
-  pub fill-one : (a : ArgsD fill.signature κs) (r r' : ResD fill.signature κs) (e e' : AtExit (endedOf 1 fill-kinds.ps fill-kinds.r) κs)
+  pub fill-one : (a : ArgsD fill.signature κs) (r r' : ResD fill.signature κs)
+      (e e' : AtExit (endedOf 1 fill-kinds.ps fill-kinds.r) κs)
       → fill-reads.Post κs a r e → fill-reads.Post κs a r' e' → (r ≡ r') × (now (e .0) ≡ now (e' .0))
   fill-one a r r' e e' p q = (refl, p ∙ sym q)
 
-  pub number-one : (a : ArgsD number.signature κs) (r r' : ResD number.signature κs) (e e' : AtExit (endedOf 1 number-kinds.ps number-kinds.r) κs)
+  pub number-one : (a : ArgsD number.signature κs) (r r' : ResD number.signature κs)
+      (e e' : AtExit (endedOf 1 number-kinds.ps number-kinds.r) κs)
       → number-reads.Post κs a r e → number-reads.Post κs a r' e' → r ≡ r'
   number-one a r r' e e' p q = p ∙ sym q
 
-  pub holds-one : (a : ArgsD holds.signature κs) (r r' : ResD holds.signature κs) (e e' : AtExit (endedOf 1 holds-kinds.ps holds-kinds.r) κs)
+  pub holds-one : (a : ArgsD holds.signature κs) (r r' : ResD holds.signature κs)
+      (e e' : AtExit (endedOf 1 holds-kinds.ps holds-kinds.r) κs)
       → holds-reads.Post κs a r e → holds-reads.Post κs a r' e' → r ≡ r'
   holds-one a r r' e e' p q = p ∙ sym q
 
-  pub read-one : (a : ArgsD read.signature κs) (r r' : ResD read.signature κs) (e e' : AtExit (endedOf 1 read-kinds.ps read-kinds.r) κs)
+  pub read-one : (a : ArgsD read.signature κs) (r r' : ResD read.signature κs)
+      (e e' : AtExit (endedOf 1 read-kinds.ps read-kinds.r) κs)
       → read-reads.Post κs a r e → read-reads.Post κs a r' e' → r ≡ r'
   read-one a r r' e e' p q = p ∙ sym q
 
-  pub write-one : (a : ArgsD write.signature κs) (r r' : ResD write.signature κs) (e e' : AtExit (endedOf 1 write-kinds.ps write-kinds.r) κs)
+  pub write-one : (a : ArgsD write.signature κs) (r r' : ResD write.signature κs)
+      (e e' : AtExit (endedOf 1 write-kinds.ps write-kinds.r) κs)
       → write-reads.Post κs a r e → write-reads.Post κs a r' e' → (r ≡ r') × (now (e .0) ≡ now (e' .0))
   write-one a r r' e e' p q = (p .0 ∙ sym (q .0), p .1 ∙ sym (q .1))

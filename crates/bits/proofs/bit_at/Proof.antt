@@ -28,9 +28,12 @@ shr-result c = omega arith
 
 returns : tie.Need-returns
 returns c =
-    let at = c .before .before .before .args .at in
-    let k = c .before .before .before .args .k in
-    omega (arith, ap (λ (x : ℕ). x / 2 ^ (7 - (at % 8 + k) % 8)) (c .wide .ensures), bit-from (c .before .before .before .args .s .now) at k)
+    let a = c .before .before .before .args in
+    omega (
+      arith,
+      ap (λ (x : ℕ). x / 2 ^ (7 - (a .at % 8 + a .k) % 8)) (c .wide .ensures),
+      bit-from (a .s .now) (a .at) (a .k),
+    )
 
 pub bit-at-spec : {M : Type 1} → statement M
 bit-at-spec =

@@ -35,7 +35,8 @@ loop-again c =
       refl,
       omega arith,
       simp length-set (lp .loop .inv .2),
-      ap (λ (l : List ℕ). set l (lp .loop .i) (a .v)) (lp .loop .inv .3) ∙ fill-more (lp .loop .i) (a .v) (a .s .now) (omega arith),
+      ap (λ (l : List ℕ). set l (lp .loop .i) (a .v)) (lp .loop .inv .3)
+          ∙ fill-more (lp .loop .i) (a .v) (a .s .now) (omega arith),
     )
 
 same-length : tie.Need-same-length Inv-loop μ-loop

@@ -20,11 +20,17 @@ loop-holds : tie.Need-loop-holds Inv-loop μ-loop
 unfolding field
 loop-holds c = omega arith
 
+abbrev st : tie.At-loop Inv-loop μ-loop → tie.Start Inv-loop μ-loop
+st c = c .before .before
+
 n-lt : (c : tie.In-loop Inv-loop μ-loop) → c .before .loop .n < 2 ^ 28
 n-lt c =
-    let st = c .before .before .before in
-    omega
-    (arith, field-lt (st .args .s .now) (st .args .at) (c .before .loop .k), pow-mono {i = c .before .loop .k} {j = 28} (omega arith))
+    let st = st (c .before) in
+    omega (
+      arith,
+      field-lt (st .args .s .now) (st .args .at) (c .before .loop .k),
+      pow-mono {i = c .before .loop .k} {j = 28} (omega arith),
+    )
 
 mul-n : tie.Need-mul-n Inv-loop μ-loop
 mul-n c = omega (arith, n-lt c)
@@ -34,7 +40,7 @@ bit-at-requires c κs = omega arith
 
 add-n : tie.Need-add-n Inv-loop μ-loop
 add-n c =
-    let st = c .before .before .before .before in
+    let st = st (c .before .before) in
     omega (arith, n-lt (c .before), bit-lt (st .args .s .now) (st .args .at + c .before .before .loop .k))
 
 add-k : tie.Need-add-k Inv-loop μ-loop
@@ -49,7 +55,7 @@ loop-again c = (omega arith, rw add-one (omega arith))
 
 returns : tie.Need-returns Inv-loop μ-loop
 returns c =
-    let st = c .before .before .before in
+    let st = st (c .before) in
     c .before .loop .inv .1 ∙ ap (λ (m : ℕ). field (st .args .s .now) (st .args .at) m) (omega arith)
 
 pub gather-spec : {M : Type 1} → statement M

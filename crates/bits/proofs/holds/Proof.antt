@@ -1,5 +1,5 @@
--- `bits::holds` meets its contract: the bytes that the bits touch, counted so that no sum wraps, are all there just when the bits are.
--- Assumes nothing.
+-- `bits::holds` meets its contract: the bytes that the bits touch, counted so that no sum wraps, are all there just when the bits
+-- are. Assumes nothing.
 use mathlib.Core.Path.{_≡_, refl, sym}
 use mathlib.Core.Bool.{Bool, true, false}
 use Prim.Native.Nat.{ℕ, _+_, _*_, _≤_, _<_}
@@ -28,7 +28,8 @@ add-result-4 c = omega arith
 
 returns : tie.Need-returns
 returns c =
-    is-leb _ (c .args .at + c .args .width) (8 * length (c .args .s .now)) (λ e. omega (arith, leb-true)) (λ e. omega (arith, leb-false))
+    is-leb _ (c .args .at + c .args .width) (8 * length (c .args .s .now)) (λ e. omega (arith, leb-true))
+    (λ e. omega (arith, leb-false))
 
 pub holds-spec : {M : Type 1} → statement M
 holds-spec = tie.close (tie.spec add-result add-result-2 add-result-3 add-result-4 returns)

@@ -19,8 +19,12 @@ shifted b k two l = shl-exact 1 k 64 two (omega arith)
 module _ (x k : ℕ) (l : k < 8) where
   old-le : x / 2 ^ k % 2 * 2 ^ k % 2 ^ 64 ≤ x
   old-le =
-      omega
-      (arith, shifted (x / 2 ^ k % 2) k (omega arith) l, mul-le-mul-right (2 ^ k) (mod-le (x / 2 ^ k) 2), div-mul-le-self x (2 ^ k))
+      omega (
+        arith,
+        shifted (x / 2 ^ k % 2) k (omega arith) l,
+        mul-le-mul-right (2 ^ k) (mod-le (x / 2 ^ k) 2),
+        div-mul-le-self x (2 ^ k),
+      )
 
   coded : (b : ℕ) → b < 2 → x - x / 2 ^ k % 2 * 2 ^ k % 2 ^ 64 + b * 2 ^ k % 2 ^ 64 ≡ byteWith x k b
   coded b two = rw (shifted (x / 2 ^ k % 2) k (omega arith) l, shifted b k two l) (sym (byte-moved x k b two))
@@ -32,7 +36,8 @@ module _ (c : tie.After-wide) where
   abbrev place : ℕ
   place = 7 - (st .args .at % 8 + st .args .k) % 8
 
-  made : c .wide .result - c .wide .result / 2 ^ place % 2 * 2 ^ place % 2 ^ 64 + st .args .b * 2 ^ place % 2 ^ 64 ≡ byteWith (c .wide .result) place (st .args .b)
+  made : c .wide .result - c .wide .result / 2 ^ place % 2 * 2 ^ place % 2 ^ 64 + st .args .b * 2 ^ place % 2 ^ 64
+      ≡ byteWith (c .wide .result) place (st .args .b)
   made = coded (c .wide .result) place (omega arith) (st .args .b) (omega arith)
 
   byte : byteWith (c .wide .result) place (st .args .b) < 256

@@ -19,15 +19,19 @@ returns c = rw (lt-leb (c .before .before .args .width) widest (omega arith))
 holds-requires : tie.Need-holds-requires
 holds-requires c κs = search needs
 
+abbrev start : tie.After-holds → tie.Start
+start c = c .before .before .before
+
 returns-2 : tie.Need-returns-2
 returns-2 c =
-    let a = c .before .before .before .before .args in
-    let past : within (a .s .now) (a .at) (a .width) ≡ false = sym (c .before .holds .ensures) ∙ not-true (c .before .holds .result) (c .if2 .taken) in
+    let a = start (c .before) .args in
+    let past : within (a .s .now) (a .at) (a .width) ≡ false
+    = sym (c .before .holds .ensures) ∙ not-true (c .before .holds .result) (c .if2 .taken) in
     rw (le-leb (a .width) widest (omega arith), past)
 
 module _ (c : tie.Else2) where
   abbrev st : tie.Start
-  st = c .before .before .before .before
+  st = start (c .before)
 
   inside : st .args .at + st .args .width ≤ 8 * length (st .args .s .now)
   inside =

@@ -27,15 +27,19 @@ holds-requires c κs = search needs
 same-length : tie.Need-same-length
 same-length c = search needs
 
+abbrev start : tie.After-holds → tie.Start
+start c = c .before .before .before .before
+
 returns-2 : tie.Need-returns-2
 returns-2 c =
-    let a = c .before .before .before .before .before .args in
-    let past : within (a .s .now) (a .at) (a .width) ≡ false = sym (c .before .holds .ensures) ∙ not-true (c .before .holds .result) (c .if2 .taken) in
+    let a = start (c .before) .args in
+    let past : within (a .s .now) (a .at) (a .width) ≡ false
+    = sym (c .before .holds .ensures) ∙ not-true (c .before .holds .result) (c .if2 .taken) in
     rw (le-leb (a .width) widest (omega arith), past) (refl, refl)
 
 module _ (c : tie.Else2) where
   abbrev st : tie.Start
-  st = c .before .before .before .before .before
+  st = start (c .before)
 
   inside : st .args .at + st .args .width ≤ 8 * length (st .args .s .now)
   inside =
@@ -70,7 +74,8 @@ returns-4 c =
     let l : a .number < 2 ^ a .width = omega
     (arith, lt-div-mul-add {a = a .number} (pow-pos (a .width)), ap (λ (q : ℕ). q * 2 ^ a .width) (e .if3 .left)) in (
       sym (fieldFits-true (a .s .now) (a .at) (a .width) (omega arith) (inside (e .before)) (a .number) l),
-      c .before .before .scatter .ensures ∙ sym (wroteField-put (a .s .now) (a .at) (a .width) (omega arith) (inside (e .before)) (a .number) l),
+      c .before .before .scatter .ensures
+          ∙ sym (wroteField-put (a .s .now) (a .at) (a .width) (omega arith) (inside (e .before)) (a .number) l),
     )
 
 pub write-spec : {M : Type 1} → statement M
