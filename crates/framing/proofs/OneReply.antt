@@ -14,7 +14,8 @@ use Rattle.framing.proofs.rate.Reads as rate-reads
 
 module _ (κs : Lfts 0) where
   pub price-one :
-      (a : ArgsD price.signature κs) (r r' : ResD price.signature κs) (e e' : AtExit (endedOf 0 price-kinds.ps price-kinds.r) κs) →
+      (a : ArgsD price.signature κs) (r r' : ResD price.signature κs)
+      (e e' : AtExit (endedOf 0 price-kinds.ps price-kinds.r) κs) →
       price-reads.Post κs a r e → price-reads.Post κs a r' e' → r ≡ r'
   price-one a r r' e e' p q = pricing-one r r' (p ∙ sym q)
 

@@ -26,21 +26,29 @@ mul-result c =
     let a = c .before .before .args in
     omega (arith, div-le-self (a .payload) (rowOf (a .framing) .most))
 
+abbrev st : tie.After-struct-known2 → tie.Start
+st c = c .before .before .before
+
 rem-last-bytes : tie.Need-rem-last-bytes
-rem-last-bytes c = fair (c .before .before .before .args .framing) (omega arith) .some
+rem-last-bytes c = fair (st c .args .framing) (omega arith) .some
 
 last-bytes-requires : tie.Need-last-bytes-requires
 last-bytes-requires c κs =
-    let a = c .before .before .before .args in
+    let a = st c .args in
     let f = fair (a .framing) (omega arith) in
     omega (arith, mod-lt (a .payload) (f .some), f .full)
 
 add-result : tie.Need-add-result
 add-result c =
-    let a = c .before .before .before .before .args in
+    let a = st (c .before) .args in
     let f = fair (a .framing) (omega arith) in
     let row = rowOf (a .framing) in
-    omega (arith, c .last-bytes .ensures, div-le-self (a .payload) (row .most), last-most row f (a .payload % row .most) (mod-lt (a .payload) (f .some)))
+    omega (
+      arith,
+      c .last-bytes .ensures,
+      div-le-self (a .payload) (row .most),
+      last-most row f (a .payload % row .most) (mod-lt (a .payload) (f .some)),
+    )
 
 returns : tie.Need-returns
 unfolding price
