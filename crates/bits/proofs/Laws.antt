@@ -328,6 +328,9 @@ module _ (s : List ℕ) (at w : ℕ) (narrow : w ≤ widest) (inside : at + w �
   pub number-is : numberOf (takenOf s at w) ≡ field s at w
   number-is = ap numberOf takenOf-number
 
+  pub number-at : {r : ℕ} → r ≡ numberOf (takenOf s at w) → r ≡ field s at w
+  number-at e = e ∙ number-is
+
   pub fieldFits-true : (v : ℕ) → v < 2 ^ w → fieldFits s at w v ≡ true
   fieldFits-true v l = rw served-true (lt-ltb v (2 ^ w) l)
 

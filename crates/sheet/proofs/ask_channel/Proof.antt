@@ -1,9 +1,12 @@
 -- `sheet::ask_channel` meets its contract.
 -- Assumes nothing.
-use mathlib.Core.Path.{sym, _∙_}
+use mathlib.Core.Path.{_≡_, sym}
+use mathlib.Core.List.{List}
+use Prim.Native.Nat.{ℕ}
 use native.Mathlib.Omega.{arith}
 use borrow.Author.Needs.{needs}
-use Rattle.bits.proofs.Laws.{number-is}
+use Rattle.bits.specs.Field.{field}
+use Rattle.bits.proofs.Laws.{number-at}
 use Rattle.rules.specs.Numbers.{endBits}
 use Rattle.rules.specs.Sheet.{figuresAt, endAt}
 use Rattle.rules.proofs.Sheet.Replies.{Passed, fault-none, ask-channel-fault, ask-channel-none, ask-channel-some}
@@ -39,13 +42,25 @@ end-at-requires c κs = omega (arith, pass (c .before .before))
 number-requires : tie.Need-number-requires
 number-requires c κs = search needs
 
+module _ (c : tie.After-number) where
+  abbrev passed : tie.Else1
+  passed = c .before .before .before .before
+
+  abbrev s : List ℕ
+  s = st passed .args .sheet .now
+
+  abbrev at : ℕ
+  at = c .before .end-at .result
+
+  delay : c .number .result ≡ field s at endBits
+  unfolding figuresAt endAt
+  delay = number-at s _ _ (omega arith) (omega (arith, pass passed)) (c .number .ensures)
+
 returns-3 : tie.Need-returns-3
 unfolding figuresAt endAt
 returns-3 c =
-    let e = c .before .before .before .before in
-    let s = st e .args .sheet .now in
-    let end = c .number .ensures ∙ number-is s (c .before .end-at .result) endBits (omega arith) (omega (arith, pass e)) in
-    sym (ask-channel-some s (pass e) (st e .args .channel) _ _ (omega arith) (omega arith) end)
+    let e = passed c in
+    sym (ask-channel-some (s c) (pass e) (st e .args .channel) (at c) _ (omega arith) (omega arith) (delay c))
 
 pub ask-channel-spec : {M : Type 1} → statement M
 ask-channel-spec =

@@ -1,12 +1,12 @@
 -- `sheet::ask_wire` meets its contract.
 -- Assumes nothing.
-use mathlib.Core.Path.{_≡_, sym, _∙_}
+use mathlib.Core.Path.{_≡_, sym}
 use mathlib.Core.List.{List}
 use Prim.Native.Nat.{ℕ, _+_}
 use native.Mathlib.Omega.{arith}
 use borrow.Author.Needs.{needs}
 use Rattle.bits.specs.Field.{field}
-use Rattle.bits.proofs.Laws.{number-is}
+use Rattle.bits.proofs.Laws.{number-at}
 use Rattle.rules.specs.Numbers.{backlogBits, delayBits}
 use Rattle.rules.specs.Sheet.{figuresAt, endAt}
 use Rattle.rules.proofs.Sheet.Replies.{Passed, fault-none, ask-wire-fault, ask-wire-none, ask-wire-some}
@@ -61,11 +61,11 @@ module _ (c : tie.After-number2) where
 
   backlog : c .before .number .result ≡ field s at backlogBits
   unfolding figuresAt endAt
-  backlog = c .before .number .ensures ∙ number-is s _ _ (omega arith) (omega (arith, pass passed))
+  backlog = number-at s _ _ (omega arith) (omega (arith, pass passed)) (c .before .number .ensures)
 
   delay : c .number2 .result ≡ field s (at + backlogBits) delayBits
   unfolding figuresAt endAt
-  delay = c .number2 .ensures ∙ number-is s _ _ (omega arith) (omega (arith, pass passed))
+  delay = number-at s _ _ (omega arith) (omega (arith, pass passed)) (c .number2 .ensures)
 
 returns-3 : tie.Need-returns-3
 unfolding figuresAt endAt

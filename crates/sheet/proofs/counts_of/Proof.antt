@@ -1,9 +1,8 @@
 -- `sheet::counts_of` meets its contract: both counts are in the first 2 bytes.
 -- Assumes nothing.
-use mathlib.Core.Path.{_∙_}
 use native.Mathlib.Omega.{arith}
 use borrow.Author.Needs.{needs}
-use Rattle.bits.proofs.Laws.{number-is}
+use Rattle.bits.proofs.Laws.{number-at}
 use Rattle.rules.specs.Numbers.{wiresBits, channelsBits}
 use Rattle.rules.specs.Sheet.{sheetWires, sheetChannels}
 use Rattle.sheet.proofs.counts_of.Statement.{statement}
@@ -19,8 +18,8 @@ returns : tie.Need-returns
 unfolding sheetWires sheetChannels
 returns c =
     let s = c .before .before .before .args .sheet .now in (
-      c .before .number .ensures ∙ number-is s 0 wiresBits (omega arith) (omega arith),
-      c .number2 .ensures ∙ number-is s wiresBits channelsBits (omega arith) (omega arith),
+      number-at s 0 wiresBits (omega arith) (omega arith) (c .before .number .ensures),
+      number-at s wiresBits channelsBits (omega arith) (omega arith) (c .number2 .ensures),
     )
 
 pub counts-of-spec : {M : Type 1} → statement M

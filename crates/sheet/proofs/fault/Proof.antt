@@ -9,7 +9,7 @@ use lib.ListN.{length}
 use borrow.Author.Needs.{needs}
 use borrow.Author.Tests.{not-true, not-false}
 use Rattle.bits.specs.Field.{field}
-use Rattle.bits.proofs.Laws.{number-is}
+use Rattle.bits.proofs.Laws.{number-at}
 use Rattle.rules.specs.Words.{between}
 use Rattle.rules.specs.Numbers.{wiresMost, channelsMost}
 use Rattle.rules.specs.Replies.{test}
@@ -105,7 +105,7 @@ module _ (c : tie.After-number) where
   ended = c .before .before
 
   filling : c .number .result ≡ field (s ended) (end ended) (8 * length (s ended) - end ended)
-  filling = c .number .ensures ∙ number-is (s ended) (end ended) _ (omega arith) (omega arith)
+  filling = number-at (s ended) (end ended) _ (omega arith) (omega arith) (c .number .ensures)
 
 returns-4 : tie.Need-returns-4
 unfolding test

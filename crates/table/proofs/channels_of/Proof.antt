@@ -8,7 +8,7 @@ use native.Mathlib.Omega.{arith}
 use lib.ListN.{length, getD}
 use borrow.Author.Needs.{needs}
 use Rattle.bits.specs.Field.{field}
-use Rattle.bits.proofs.Laws.{field-lt, number-is}
+use Rattle.bits.proofs.Laws.{field-lt, number-at}
 use Rattle.rules.specs.declared.Reading.{Reading}
 use Rattle.rules.specs.declared.Reading.the-variants as answer
 use Rattle.rules.specs.Numbers.{headBits, wireBits, fixedBits, hopBits}
@@ -198,7 +198,7 @@ module _ (c : tie.After-number Inv-loop μ-loop Inv-search μ-search) where
   wire = c .number .result
 
   wire-is : wire ≡ field bytes (hops-from channel + hopBits * i) hopBits
-  wire-is = c .number .ensures ∙ number-is bytes _ _ (omega arith) (omega (arith, short channel))
+  wire-is = number-at bytes _ _ (omega arith) (omega (arith, short channel)) (c .number .ensures)
 
   wire-lt : wire < 64
   wire-lt = omega (arith, wire-is, field-lt bytes (hops-from channel + hopBits * i) hopBits)

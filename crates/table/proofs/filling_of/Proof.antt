@@ -5,7 +5,7 @@ use native.Mathlib.Omega.{arith}
 use Prim.Native.Nat.{ℕ, _-_, _*_}
 use lib.ListN.{length}
 use borrow.Author.Needs.{needs}
-use Rattle.bits.proofs.Laws.{number-is}
+use Rattle.bits.proofs.Laws.{number-at}
 use Rattle.rules.specs.Table.{endOf, fillingOf}
 use Rattle.rules.proofs.Tables.Search.{filling-is, filling-long, filling-not-0, filling-passes}
 use Rattle.table.proofs.filling_of.Statement.{statement}
@@ -40,7 +40,7 @@ module _ (c : tie.After-number) where
 
   filled : c .number .result ≡ fillingOf s (endOf s)
   filled =
-      filling-is s (st .args .end) left (c .number .ensures ∙ number-is s _ left (omega arith) (omega arith)) (st .pre .0)
+      filling-is s (st .args .end) left (number-at s _ left (omega arith) (omega arith) (c .number .ensures)) (st .pre .0)
       (omega arith)
 
 returns-2 : tie.Need-returns-2

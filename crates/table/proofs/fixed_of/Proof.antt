@@ -6,7 +6,7 @@ use Prim.Native.Nat.{ℕ, _+_, _*_, _/_, _%_, _≤_, _<_}
 use native.Mathlib.Omega.{arith}
 use lib.ListN.{length}
 use borrow.Author.Needs.{needs}
-use Rattle.bits.proofs.Laws.{field-lt, number-is}
+use Rattle.bits.proofs.Laws.{field-lt, number-at}
 use Rattle.rules.specs.Numbers.{fixedBits, framingBits, payloadBits, hopBits}
 use Rattle.rules.specs.Price.{price}
 use Rattle.rules.specs.Table.{hyperOf, framingAt, payloadAt, periodAt, deadlineAt, hopsAt}
@@ -75,15 +75,15 @@ module _ (c : tie.After-number3) where
 
   payload : c .before .before .number .result ≡ payloadAt (s st) (at st)
   unfolding payloadAt
-  payload = c .before .before .number .ensures ∙ number-is (s st) _ _ (omega arith) (omega (arith, there))
+  payload = number-at (s st) _ _ (omega arith) (omega (arith, there)) (c .before .before .number .ensures)
 
   period : c .before .number2 .result ≡ periodAt (s st) (at st)
   unfolding periodAt
-  period = c .before .number2 .ensures ∙ number-is (s st) _ _ (omega arith) (omega (arith, there))
+  period = number-at (s st) _ _ (omega arith) (omega (arith, there)) (c .before .number2 .ensures)
 
   hops : c .number3 .result ≡ hopsAt (s st) (at st)
   unfolding hopsAt
-  hops = c .number3 .ensures ∙ number-is (s st) _ _ (omega arith) (omega (arith, there))
+  hops = number-at (s st) _ _ (omega arith) (omega (arith, there)) (c .number3 .ensures)
 
   -- what is left of H by the period
   divided : st .args .hyper % c .before .number2 .result ≡ hyperOf (s st) % periodAt (s st) (at st)
@@ -188,7 +188,7 @@ module _ (c : tie.After-number4) where
 
   framing : c .number4 .result ≡ framingAt (s (begun passed)) (at (begun passed))
   unfolding framingAt
-  framing = c .number4 .ensures ∙ number-is (s (begun passed)) _ _ (omega arith) (omega (arith, there (fields passed)))
+  framing = number-at (s (begun passed)) _ _ (omega arith) (omega (arith, there (fields passed))) (c .number4 .ensures)
 
 price-of-requires : tie.Need-price-of-requires
 unfolding framingAt payloadAt
@@ -215,7 +215,7 @@ module _ (c : tie.After-number5) where
 
   deadline : c .number5 .result ≡ deadlineAt (s (begun all)) (at (begun all))
   unfolding deadlineAt
-  deadline = c .number5 .ensures ∙ number-is (s (begun all)) _ _ (omega arith) (omega (arith, there (fields all)))
+  deadline = number-at (s (begun all)) _ _ (omega arith) (omega (arith, there (fields all))) (c .number5 .ensures)
 
   route : at (begun all) + fixedBits + hopBits * fields all .number3 .result ≤ 8 * length (s (begun all))
   route =

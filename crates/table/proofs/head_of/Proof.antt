@@ -1,12 +1,12 @@
 -- `table::head_of` meets its contract: each return by the tests that led there.
-use mathlib.Core.Path.{_≡_, _∙_}
+use mathlib.Core.Path.{_≡_}
 use mathlib.Core.Logic.{inl, inr}
 use mathlib.Core.List.{List}
 use Prim.Native.Nat.{ℕ, _*_, _≤_}
 use native.Mathlib.Omega.{arith}
 use lib.ListN.{length}
 use borrow.Author.Needs.{needs}
-use Rattle.bits.proofs.Laws.{number-is}
+use Rattle.bits.proofs.Laws.{number-at}
 use Rattle.rules.specs.Numbers.{headBits}
 use Rattle.rules.specs.Table.{hyperOf, wiresOf, channelsOf}
 use Rattle.rules.proofs.Tables.Search.{head-1, head-2, head-3, head-4, head-passes}
@@ -49,15 +49,15 @@ module _ (c : tie.After-number3) where
 
   hyper : c .before .before .number .result ≡ hyperOf s
   unfolding hyperOf
-  hyper = c .before .before .number .ensures ∙ number-is s _ _ (omega arith) (omega (arith, there))
+  hyper = number-at s _ _ (omega arith) (omega (arith, there)) (c .before .before .number .ensures)
 
   wires : c .before .number2 .result ≡ wiresOf s
   unfolding wiresOf
-  wires = c .before .number2 .ensures ∙ number-is s _ _ (omega arith) (omega (arith, there))
+  wires = number-at s _ _ (omega arith) (omega (arith, there)) (c .before .number2 .ensures)
 
   channels : c .number3 .result ≡ channelsOf s
   unfolding channelsOf
-  channels = c .number3 .ensures ∙ number-is s _ _ (omega arith) (omega (arith, there))
+  channels = number-at s _ _ (omega arith) (omega (arith, there)) (c .number3 .ensures)
 
 returns-2 : tie.Need-returns-2
 returns-2 c =

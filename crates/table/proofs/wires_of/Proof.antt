@@ -6,7 +6,7 @@ use Prim.Native.Nat.{ℕ, _+_, _-_, _*_, _≤_, _<_}
 use native.Mathlib.Omega.{arith}
 use lib.ListN.{length, getD}
 use borrow.Author.Needs.{needs}
-use Rattle.bits.proofs.Laws.{number-is}
+use Rattle.bits.proofs.Laws.{number-at}
 use Rattle.rules.specs.declared.Reading.{Reading}
 use Rattle.rules.specs.declared.Reading.the-variants as answer
 use Rattle.rules.specs.Numbers.{rates, wireBits, wiresMost}
@@ -87,7 +87,7 @@ module _ (c : tie.After-rate Inv-loop μ-loop) where
 
   code : c .before .number .result ≡ codeOf (s top) (w top)
   unfolding codeOf wireAt
-  code = c .before .number .ensures ∙ number-is (s top) _ _ (omega arith) (omega (arith, whole))
+  code = number-at (s top) _ _ (omega arith) (omega (arith, whole)) (c .before .number .ensures)
 
   coded : c .rate .result ≡ getD rates (codeOf (s top) (w top)) 0
   coded = c .rate .ensures ∙ ap (λ (k : ℕ). getD rates k 0) code
@@ -147,11 +147,11 @@ module _ (c : tie.After-number3 Inv-loop μ-loop) where
 
   prop : c .before .number2 .result ≡ propOf (s turn) (w turn)
   unfolding propOf wireAt
-  prop = c .before .number2 .ensures ∙ number-is (s turn) _ _ (omega arith) (omega (arith, whole rated))
+  prop = number-at (s turn) _ _ (omega arith) (omega (arith, whole rated)) (c .before .number2 .ensures)
 
   room : c .number3 .result ≡ roomOf (s turn) (w turn)
   unfolding roomOf wireAt
-  room = c .number3 .ensures ∙ number-is (s turn) _ _ (omega arith) (omega (arith, whole rated))
+  room = number-at (s turn) _ _ (omega arith) (omega (arith, whole rated)) (c .number3 .ensures)
 
 loop-again : tie.Need-loop-again Inv-loop μ-loop
 loop-again c =
