@@ -52,15 +52,14 @@ pub fn judge(table: &[u8], sheet: &mut [u8]) -> Judging
     if let Reading::Refused(number, place) = bounding {
         return refuse(sheet, number, place);
     }
-    let t = bounded.table;
     let figures = bounded.figures;
     let end = figures.end;
-    let deadline = t.deadline;
-    let timely = none_late(table, &end, &deadline, t.channels);
+    let deadline = bounded.table.deadline;
+    let timely = none_late(table, &end, &deadline, bounded.table.channels);
     if let Reading::Refused(number, place) = timely {
         return refuse(sheet, number, place);
     }
-    let written = sheet::write(sheet, t.wires, t.channels, figures);
+    let written = sheet::write(sheet, bounded.table.wires, bounded.table.channels, figures);
     match written {
         Written::Length(length) => Judging::Accepted(length),
         Written::Nothing => Judging::Refused(NO_ROOM, 0),

@@ -96,7 +96,7 @@ module _ (c : tie.After-enum-told) where
       }
 
 none-late-requires : tie.Need-none-late-requires
-none-late-requires c κs = ends (c .before .before .before .before .before .before)
+none-late-requires c κs = ends (c .before .before .before .before .before)
 
 enum-known-timely : tie.Need-enum-known-timely
 enum-known-timely c = search needs
@@ -109,7 +109,7 @@ same-length-2 c = search needs
 
 module _ (c : tie.After-none-late) where
   abbrev told-bounds : tie.After-enum-told
-  told-bounds = c .before .before .before .before .before .before .before
+  told-bounds = c .before .before .before .before .before .before
 
 returns-2 : tie.Need-returns-2
 returns-2 c =
