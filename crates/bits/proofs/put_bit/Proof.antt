@@ -94,18 +94,5 @@ returns c =
 pub put-bit-spec : {M : Type 1} → statement M
 put-bit-spec =
     tie.close
-    (tie.spec
-    add-i
-    add-n
-    sub-place
-    slice-read-wide
-    wide-requires
-    shr-s
-    shl-s
-    sub-s
-    shl-s-2
-    add-s
-    cast-s
-    slice-write-s
-    same-length
-    returns)
+    (tie.spec add-i add-n sub-place slice-read-wide wide-requires shr-s shl-s sub-s shl-s-2 add-s cast-s slice-write-s
+    same-length returns)

@@ -77,16 +77,5 @@ returns c =
 pub scatter-spec : {M : Type 1} → statement M
 scatter-spec =
     tie.close
-    (tie.spec
-    Inv-loop
-    μ-loop
-    loop-holds
-    sub-put-bit
-    sub-put-bit-2
-    shr-put-bit
-    put-bit-requires
-    add-k
-    loop-less
-    loop-again
-    same-length
-    returns)
+    (tie.spec Inv-loop μ-loop loop-holds sub-put-bit sub-put-bit-2 shr-put-bit put-bit-requires add-k loop-less loop-again
+    same-length returns)

@@ -81,14 +81,5 @@ returns-4 c =
 pub write-spec : {M : Type 1} → statement M
 write-spec =
     tie.close
-    (tie.spec
-    returns
-    holds-requires
-    same-length
-    returns-2
-    shr-if3
-    same-length-2
-    returns-3
-    scatter-requires
-    same-length-3
+    (tie.spec returns holds-requires same-length returns-2 shr-if3 same-length-2 returns-3 scatter-requires same-length-3
     returns-4)

@@ -44,15 +44,5 @@ returns-2 c = search needs
 pub main-spec : {M : Type 1} → statement M
 main-spec =
     tie.close
-    (tie.spec
-    slice-aggregate-read-whole
-    read-whole-requires
-    enum-known-n
-    enum-told
-    slice-aggregate-complain
-    complain-requires
-    returns
-    array-share-prefix-bytes
-    slice-aggregate-judge-and-show
-    judge-and-show-requires
-    returns-2)
+    (tie.spec slice-aggregate-read-whole read-whole-requires enum-known-n enum-told slice-aggregate-complain
+    complain-requires returns array-share-prefix-bytes slice-aggregate-judge-and-show judge-and-show-requires returns-2)

@@ -40,14 +40,5 @@ returns c = search needs
 pub show-channels-spec : {M : Type 1} → statement M
 show-channels-spec =
     tie.close
-    (tie.spec
-    Inv-loop
-    μ-loop
-    loop-holds
-    mul-show-channel
-    shared-slice-read-show-channel
-    show-channel-requires
-    add-k
-    loop-less
-    loop-again
-    returns)
+    (tie.spec Inv-loop μ-loop loop-holds mul-show-channel shared-slice-read-show-channel show-channel-requires add-k
+    loop-less loop-again returns)

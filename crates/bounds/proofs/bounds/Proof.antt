@@ -77,15 +77,5 @@ returns-3 c =
 pub bounds-spec : {M : Type 1} → statement M
 bounds-spec =
     tie.close
-    (tie.spec
-    read-requires
-    enum-told
-    no-figures-requires
-    returns
-    enum-told-2
-    work-requires
-    enum-told-3
-    none-requires
-    returns-2
-    enum-told-4
-    returns-3)
+    (tie.spec read-requires enum-told no-figures-requires returns enum-told-2 work-requires enum-told-3 none-requires
+    returns-2 enum-told-4 returns-3)

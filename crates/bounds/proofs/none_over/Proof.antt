@@ -87,17 +87,5 @@ returns-2 c =
 pub none-over-spec : {M : Type 1} → statement M
 none-over-spec =
     tie.close
-    (tie.spec
-    Inv-loop
-    μ-loop
-    loop-holds
-    mul-if1
-    element-copy-out-if1
-    mul-if1-2
-    mul-if1-3
-    element-copy-out-if1-2
-    returns
-    add-w
-    loop-less
-    loop-again
-    returns-2)
+    (tie.spec Inv-loop μ-loop loop-holds mul-if1 element-copy-out-if1 mul-if1-2 mul-if1-3 element-copy-out-if1-2 returns
+    add-w loop-less loop-again returns-2)

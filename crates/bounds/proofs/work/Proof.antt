@@ -137,13 +137,5 @@ returns-2 c =
 pub work-spec : {M : Type 1} → statement M
 work-spec =
     tie.close
-    (tie.spec
-    file-requires
-    file-firsts-requires
-    none-over-requires
-    enum-told
-    unworked-requires
-    returns
-    enum-told-2
-    walk-requires
-    returns-2)
+    (tie.spec file-requires file-firsts-requires none-over-requires enum-told unworked-requires returns enum-told-2
+    walk-requires returns-2)

@@ -42,15 +42,5 @@ returns c = λ k l. c .before .loop .inv .0 .front k (omega arith)
 pub move-to-front-spec : {M : Type 1} → statement M
 move-to-front-spec =
     tie.close
-    (tie.spec
-    Inv-loop
-    μ-loop
-    loop-holds
-    add-bytes
-    slice-read-bytes
-    slice-write-bytes
-    add-i
-    loop-less
-    loop-again
-    same-length
-    returns)
+    (tie.spec Inv-loop μ-loop loop-holds add-bytes slice-read-bytes slice-write-bytes add-i loop-less loop-again
+    same-length returns)

@@ -89,27 +89,6 @@ returns-5 c = search needs
 pub next-line-spec : {M : Type 1} → statement M
 next-line-spec =
     tie.close
-    (tie.spec
-    least-requires
-    least-requires-2
-    sub-find
-    part-find-start
-    part-find-end
-    find-requires
-    add-end
-    add-handed
-    handed-requires
-    same-length
-    returns
-    handed-requires-2
-    same-length-2
-    returns-2
-    read-on-requires
-    same-length-3
-    returns-3
-    too-long-requires
-    same-length-4
-    returns-4
-    read-on-requires-2
-    same-length-5
-    returns-5)
+    (tie.spec least-requires least-requires-2 sub-find part-find-start part-find-end find-requires add-end add-handed
+    handed-requires same-length returns handed-requires-2 same-length-2 returns-2 read-on-requires same-length-3 returns-3
+    too-long-requires same-length-4 returns-4 read-on-requires-2 same-length-5 returns-5)

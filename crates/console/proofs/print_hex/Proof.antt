@@ -45,16 +45,5 @@ returns c = search needs
 pub print-hex-spec : {M : Type 1} → statement M
 print-hex-spec =
     tie.close
-    (tie.spec
-    Inv-loop
-    μ-loop
-    slice-aggregate-print
-    print-requires
-    loop-holds
-    shared-slice-read-print-hex
-    cast-print-hex
-    print-hex-requires
-    add-i
-    loop-less
-    loop-again
-    returns)
+    (tie.spec Inv-loop μ-loop slice-aggregate-print print-requires loop-holds shared-slice-read-print-hex cast-print-hex
+    print-hex-requires add-i loop-less loop-again returns)

@@ -57,12 +57,4 @@ returns c = rw (c .last-bytes .ensures) refl
 pub priced-spec : {M : Type 1} → statement M
 priced-spec =
     tie.close
-    (tie.spec
-    mul-row
-    array-copy-out-row
-    div-result
-    mul-result
-    rem-last-bytes
-    last-bytes-requires
-    add-result
-    returns)
+    (tie.spec mul-row array-copy-out-row div-result mul-result rem-last-bytes last-bytes-requires add-result returns)

@@ -207,23 +207,6 @@ returns-4 c =
 pub judge-spec : {M : Type 1} → statement M
 judge-spec =
     tie.close
-    (tie.spec
-    bounds-requires
-    enum-known-bounding
-    refuse-requires
-    same-length
-    returns
-    enum-told
-    none-late-requires
-    enum-known-timely
-    refuse-requires-2
-    same-length-2
-    returns-2
-    enum-told-2
-    write-requires
-    enum-known-written
-    enum-told-3
-    same-length-3
-    returns-3
-    same-length-4
-    returns-4)
+    (tie.spec bounds-requires enum-known-bounding refuse-requires same-length returns enum-told none-late-requires
+    enum-known-timely refuse-requires-2 same-length-2 returns-2 enum-told-2 write-requires enum-known-written enum-told-3
+    same-length-3 returns-3 same-length-4 returns-4)

@@ -78,16 +78,5 @@ returns-2 c =
 pub none-late-spec : {M : Type 1} → statement M
 none-late-spec =
     tie.close
-    (tie.spec
-    Inv-loop
-    μ-loop
-    loop-holds
-    mul-if1
-    element-copy-out-if1
-    mul-if1-2
-    element-copy-out-if1-2
-    returns
-    add-k
-    loop-less
-    loop-again
-    returns-2)
+    (tie.spec Inv-loop μ-loop loop-holds mul-if1 element-copy-out-if1 mul-if1-2 element-copy-out-if1-2
+    returns add-k loop-less loop-again returns-2)

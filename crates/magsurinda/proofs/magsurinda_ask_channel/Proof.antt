@@ -53,11 +53,4 @@ returns-2 c =
 pub magsurinda-ask-channel-spec : {M : Type 1} → statement M
 magsurinda-ask-channel-spec =
     tie.close
-    (tie.spec
-    ask-channel-requires
-    enum-known-answer
-    pack-requires
-    enum-known-answer-2
-    pack-requires-2
-    returns
-    returns-2)
+    (tie.spec ask-channel-requires enum-known-answer pack-requires enum-known-answer-2 pack-requires-2 returns returns-2)

@@ -53,11 +53,5 @@ returns-2 c =
 pub magsurinda-ask-wire-spec : {M : Type 1} → statement M
 magsurinda-ask-wire-spec =
     tie.close
-    (tie.spec
-    ask-wire-requires
-    enum-known-answer
-    pack-figures-requires
-    enum-known-answer-2
-    pack-requires
-    returns
+    (tie.spec ask-wire-requires enum-known-answer pack-figures-requires enum-known-answer-2 pack-requires returns
     returns-2)

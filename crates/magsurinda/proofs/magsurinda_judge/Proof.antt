@@ -75,13 +75,5 @@ returns-2 c =
 pub magsurinda-judge-spec : {M : Type 1} → statement M
 magsurinda-judge-spec =
     tie.close
-    (tie.spec
-    judge-requires
-    enum-known-answer
-    pack-requires
-    enum-known-answer-2
-    pack-requires-2
-    same-length
-    returns
-    same-length-2
-    returns-2)
+    (tie.spec judge-requires enum-known-answer pack-requires enum-known-answer-2 pack-requires-2 same-length returns
+    same-length-2 returns-2)

@@ -53,11 +53,4 @@ returns-2 c =
 pub magsurinda-price-spec : {M : Type 1} → statement M
 magsurinda-price-spec =
     tie.close
-    (tie.spec
-    price-requires
-    enum-known-answer
-    pack-requires
-    enum-known-answer-2
-    pack-requires-2
-    returns
-    returns-2)
+    (tie.spec price-requires enum-known-answer pack-requires enum-known-answer-2 pack-requires-2 returns returns-2)

@@ -65,11 +65,4 @@ returns-3 c =
 pub ask-channel-spec : {M : Type 1} → statement M
 ask-channel-spec =
     tie.close
-    (tie.spec
-    fault-requires
-    returns
-    counts-of-requires
-    returns-2
-    end-at-requires
-    number-requires
-    returns-3)
+    (tie.spec fault-requires returns counts-of-requires returns-2 end-at-requires number-requires returns-3)

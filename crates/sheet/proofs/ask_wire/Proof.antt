@@ -76,13 +76,5 @@ returns-3 c =
 pub ask-wire-spec : {M : Type 1} → statement M
 ask-wire-spec =
     tie.close
-    (tie.spec
-    fault-requires
-    returns
-    counts-of-requires
-    returns-2
-    figures-at-requires
-    add-next
-    number-requires
-    number-requires-2
-    returns-3)
+    (tie.spec fault-requires returns counts-of-requires returns-2 figures-at-requires add-next number-requires
+    number-requires-2 returns-3)

@@ -122,17 +122,5 @@ returns-5 c rest =
 pub fault-spec : {M : Type 1} → statement M
 fault-spec =
     tie.close
-    (tie.spec
-    returns
-    counts-of-requires
-    counted-requires
-    returns-2
-    end-at-requires
-    sub-if3
-    add-if3
-    returns-3
-    mul-number
-    sub-number
-    number-requires
-    returns-4
-    returns-5)
+    (tie.spec returns counts-of-requires counted-requires returns-2 end-at-requires sub-if3 add-if3 returns-3 mul-number
+    sub-number number-requires returns-4 returns-5)

@@ -112,18 +112,6 @@ returns-4 c =
 pub fit-spec : {M : Type 1} → statement M
 fit-spec =
     tie.close
-    (tie.spec
-    counted-requires
-    returns
-    slice-aggregate-all-below
-    shl-all-below
-    all-below-requires
-    returns-2
-    slice-aggregate-all-below-2
-    shl-all-below-2
-    all-below-requires-2
-    returns-3
-    slice-aggregate-all-below-3
-    shl-all-below-3
-    all-below-requires-3
-    returns-4)
+    (tie.spec counted-requires returns slice-aggregate-all-below shl-all-below all-below-requires returns-2
+    slice-aggregate-all-below-2 shl-all-below-2 all-below-requires-2 returns-3 slice-aggregate-all-below-3 shl-all-below-3
+    all-below-requires-3 returns-4)

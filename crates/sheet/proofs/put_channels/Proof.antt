@@ -73,16 +73,5 @@ returns c =
 pub put-channels-spec : {M : Type 1} → statement M
 put-channels-spec =
     tie.close
-    (tie.spec
-    Inv-loop
-    μ-loop
-    loop-holds
-    end-at-requires
-    mul-write
-    array-read-write
-    write-requires
-    add-k
-    loop-less
-    loop-again
-    same-length
-    returns)
+    (tie.spec Inv-loop μ-loop loop-holds end-at-requires mul-write array-read-write write-requires add-k loop-less
+    loop-again same-length returns)

@@ -93,20 +93,5 @@ returns c =
 pub put-wires-spec : {M : Type 1} → statement M
 put-wires-spec =
     tie.close
-    (tie.spec
-    Inv-loop
-    μ-loop
-    loop-holds
-    figures-at-requires
-    mul-write
-    array-read-write
-    write-requires
-    add-write
-    mul-write-2
-    array-read-write-2
-    write-requires-2
-    add-w
-    loop-less
-    loop-again
-    same-length
-    returns)
+    (tie.spec Inv-loop μ-loop loop-holds figures-at-requires mul-write array-read-write write-requires add-write
+    mul-write-2 array-read-write-2 write-requires-2 add-w loop-less loop-again same-length returns)

@@ -150,19 +150,6 @@ returns-3 c =
 pub write-spec : {M : Type 1} → statement M
 write-spec =
     tie.close
-    (tie.spec
-    fill-requires
-    fit-requires
-    same-length
-    returns
-    sheet-length-requires
-    same-length-2
-    returns-2
-    slice-relend-prefix-part
-    slice-aggregate-part
-    fill-requires-2
-    put-head-requires
-    put-wires-requires
-    put-channels-requires
-    same-length-3
-    returns-3)
+    (tie.spec fill-requires fit-requires same-length returns sheet-length-requires same-length-2 returns-2
+    slice-relend-prefix-part slice-aggregate-part fill-requires-2 put-head-requires put-wires-requires
+    put-channels-requires same-length-3 returns-3)

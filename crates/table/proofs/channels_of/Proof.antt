@@ -383,44 +383,8 @@ returns-4 c =
 pub channels-of-spec : {M : Type 1} → statement M
 channels-of-spec =
     tie.close
-    (tie.spec
-    Inv-loop
-    μ-loop
-    Inv-search
-    μ-search
-    mul-end
-    add-end
-    search-holds
-    fixed-of-requires
-    enum-known-answer
-    enum-told
-    add-at
-    loop-holds
-    mul-number
-    add-number
-    number-requires
-    cast-route
-    mul-route
-    add-route
-    array-write-route
-    add-least
-    add-i
-    loop-less
-    loop-again
-    mul-price
-    array-write-price
-    mul-times
-    array-write-times
-    mul-deadline
-    array-write-deadline
-    cast-hops
-    array-write-hops
-    mul-end-2
-    add-end-2
-    add-c
-    search-less
-    search-again
-    returns
-    returns-2
-    returns-3
-    returns-4)
+    (tie.spec Inv-loop μ-loop Inv-search μ-search mul-end add-end search-holds fixed-of-requires enum-known-answer
+    enum-told add-at loop-holds mul-number add-number number-requires cast-route mul-route add-route array-write-route
+    add-least add-i loop-less loop-again mul-price array-write-price mul-times array-write-times mul-deadline
+    array-write-deadline cast-hops array-write-hops mul-end-2 add-end-2 add-c search-less search-again returns returns-2
+    returns-3 returns-4)

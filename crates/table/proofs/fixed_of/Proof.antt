@@ -243,35 +243,7 @@ returns-8 c =
 pub fixed-of-spec : {M : Type 1} → statement M
 fixed-of-spec =
     tie.close
-    (tie.spec
-    holds-requires
-    no-fixed-requires
-    returns
-    add-payload-at
-    add-period-at
-    add-deadline-at
-    number-requires
-    number-requires-2
-    add-number
-    number-requires-3
-    no-fixed-requires-2
-    returns-2
-    no-fixed-requires-3
-    returns-3
-    rem-if4
-    no-fixed-requires-4
-    returns-4
-    no-fixed-requires-5
-    returns-5
-    no-fixed-requires-6
-    returns-6
-    add-holds
-    mul-holds
-    holds-requires-2
-    no-fixed-requires-7
-    returns-7
-    number-requires-4
-    price-of-requires
-    div-t19
-    number-requires-5
-    returns-8)
+    (tie.spec holds-requires no-fixed-requires returns add-payload-at add-period-at add-deadline-at number-requires
+    number-requires-2 add-number number-requires-3 no-fixed-requires-2 returns-2 no-fixed-requires-3 returns-3 rem-if4
+    no-fixed-requires-4 returns-4 no-fixed-requires-5 returns-5 no-fixed-requires-6 returns-6 add-holds mul-holds
+    holds-requires-2 no-fixed-requires-7 returns-7 number-requires-4 price-of-requires div-t19 number-requires-5 returns-8)

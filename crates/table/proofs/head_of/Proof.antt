@@ -106,17 +106,5 @@ returns-8 c =
 pub head-of-spec : {M : Type 1} → statement M
 head-of-spec =
     tie.close
-    (tie.spec
-    holds-requires
-    returns
-    number-requires
-    number-requires-2
-    add-number
-    number-requires-3
-    returns-2
-    returns-3
-    returns-4
-    returns-5
-    returns-6
-    returns-7
-    returns-8)
+    (tie.spec holds-requires returns number-requires number-requires-2 add-number number-requires-3 returns-2 returns-3
+    returns-4 returns-5 returns-6 returns-7 returns-8)

@@ -181,26 +181,6 @@ returns-5 c =
 pub read-spec : {M : Type 1} → statement M
 read-spec =
     tie.close
-    (tie.spec
-    head-of-requires
-    enum-known-answer
-    refused-requires
-    returns
-    enum-told
-    wires-of-requires
-    enum-known-answer-2
-    refused-requires-2
-    returns-2
-    enum-told-2
-    channels-of-requires
-    enum-known-answer-3
-    refused-requires-3
-    returns-3
-    enum-told-3
-    filling-of-requires
-    enum-known-number
-    refused-requires-4
-    returns-4
-    enum-told-4
-    whole-requires
-    returns-5)
+    (tie.spec head-of-requires enum-known-answer refused-requires returns enum-told wires-of-requires enum-known-answer-2
+    refused-requires-2 returns-2 enum-told-2 channels-of-requires enum-known-answer-3 refused-requires-3 returns-3
+    enum-told-3 filling-of-requires enum-known-number refused-requires-4 returns-4 enum-told-4 whole-requires returns-5)

@@ -204,29 +204,6 @@ returns-3 c =
 pub wires-of-spec : {M : Type 1} → statement M
 wires-of-spec =
     tie.close
-    (tie.spec
-    Inv-loop
-    μ-loop
-    loop-holds
-    mul-at
-    add-at
-    holds-requires
-    number-requires
-    rate-requires
-    mul-rate
-    array-write-rate
-    add-number
-    number-requires-2
-    mul-prop
-    array-write-prop
-    add-number-2
-    add-number-3
-    number-requires-3
-    mul-room
-    array-write-room
-    add-w
-    loop-less
-    loop-again
-    returns
-    returns-2
-    returns-3)
+    (tie.spec Inv-loop μ-loop loop-holds mul-at add-at holds-requires number-requires rate-requires mul-rate
+    array-write-rate add-number number-requires-2 mul-prop array-write-prop add-number-2 add-number-3 number-requires-3
+    mul-room array-write-room add-w loop-less loop-again returns returns-2 returns-3)

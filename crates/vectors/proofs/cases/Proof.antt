@@ -57,20 +57,5 @@ returns-2 c = search needs
 pub cases-spec : {M : Type 1} → statement M
 cases-spec =
     tie.close
-    (tie.spec
-    Inv-loop
-    μ-loop
-    no-line-requires
-    loop-holds
-    next-line-requires
-    sub-answer
-    part-answer-start
-    part-answer-end
-    answer-requires
-    same-length
-    returns
-    add-counter
-    loop-less
-    loop-again
-    same-length-2
-    returns-2)
+    (tie.spec Inv-loop μ-loop no-line-requires loop-holds next-line-requires sub-answer part-answer-start part-answer-end
+    answer-requires same-length returns add-counter loop-less loop-again same-length-2 returns-2)

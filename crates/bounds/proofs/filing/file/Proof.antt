@@ -120,19 +120,6 @@ returns c =
 pub file-spec : {M : Type 1} → statement M
 file-spec =
     tie.close
-    (tie.spec
-    Inv-loop
-    μ-loop
-    loop-holds
-    array-read-wide
-    wide-requires
-    mul-file-channel
-    array-read-file-channel
-    mul-file-channel-2
-    array-read-file-channel-2
-    mul-file-channel-3
-    file-channel-requires
-    add-c
-    loop-less
-    loop-again
+    (tie.spec Inv-loop μ-loop loop-holds array-read-wide wide-requires mul-file-channel array-read-file-channel
+    mul-file-channel-2 array-read-file-channel-2 mul-file-channel-3 file-channel-requires add-c loop-less loop-again
     returns)

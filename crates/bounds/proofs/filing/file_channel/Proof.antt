@@ -169,29 +169,6 @@ returns c =
 pub file-channel-spec : {M : Type 1} → statement M
 file-channel-spec =
     tie.close
-    (tie.spec
-    Inv-loop
-    μ-loop
-    loop-holds
-    mul-wide
-    add-wide
-    element-copy-out-wide
-    wide-requires
-    mul-at
-    element-copy-out-at
-    mul-carried
-    element-copy-out-carried
-    cast-list
-    mul-list
-    add-list
-    element-write-list
-    add-count
-    mul-count
-    element-write-count
-    add-load
-    mul-load
-    element-write-load
-    add-i
-    loop-less
-    loop-again
-    returns)
+    (tie.spec Inv-loop μ-loop loop-holds mul-wide add-wide element-copy-out-wide wide-requires mul-at element-copy-out-at
+    mul-carried element-copy-out-carried cast-list mul-list add-list element-write-list add-count mul-count
+    element-write-count add-load mul-load element-write-load add-i loop-less loop-again returns)

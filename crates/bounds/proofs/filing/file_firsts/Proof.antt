@@ -115,17 +115,5 @@ returns c =
 pub file-firsts-spec : {M : Type 1} → statement M
 file-firsts-spec =
     tie.close
-    (tie.spec
-    Inv-loop
-    μ-loop
-    loop-holds
-    mul-wide
-    array-read-wide
-    wide-requires
-    mul-ahead
-    mul-ahead-2
-    element-write-ahead
-    add-c
-    loop-less
-    loop-again
-    returns)
+    (tie.spec Inv-loop μ-loop loop-holds mul-wide array-read-wide wide-requires mul-ahead mul-ahead-2 element-write-ahead
+    add-c loop-less loop-again returns)

@@ -169,23 +169,6 @@ returns c =
 pub burst-spec : {M : Type 1} → statement M
 burst-spec =
     tie.close
-    (tie.spec
-    Inv-loop
-    μ-loop
-    mul-first
-    loop-holds
-    add-wide
-    element-copy-out-wide
-    wide-requires
-    mul-share
-    element-copy-out-share
-    mul-share-2
-    element-copy-out-share-2
-    mul-share-3
-    element-copy-out-share-3
-    share-requires
-    add-sum
-    add-j
-    loop-less
-    loop-again
-    returns)
+    (tie.spec Inv-loop μ-loop mul-first loop-holds add-wide element-copy-out-wide wide-requires mul-share
+    element-copy-out-share mul-share-2 element-copy-out-share-2 mul-share-3 element-copy-out-share-3 share-requires
+    add-sum add-j loop-less loop-again returns)

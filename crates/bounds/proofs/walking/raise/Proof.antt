@@ -145,23 +145,6 @@ returns c =
 pub raise-spec : {M : Type 1} → statement M
 raise-spec =
     tie.close
-    (tie.spec
-    Inv-loop
-    μ-loop
-    mul-first
-    loop-holds
-    add-wide
-    element-copy-out-wide
-    wide-requires
-    mul-jitter
-    element-copy-out-jitter
-    add-jitter
-    element-write-jitter
-    mul-end
-    element-copy-out-end
-    add-end
-    element-write-end
-    add-j
-    loop-less
-    loop-again
-    returns)
+    (tie.spec Inv-loop μ-loop mul-first loop-holds add-wide element-copy-out-wide wide-requires mul-jitter
+    element-copy-out-jitter add-jitter element-write-jitter mul-end element-copy-out-end add-end element-write-end add-j
+    loop-less loop-again returns)

@@ -402,41 +402,8 @@ returns-2 c =
 pub walk-spec : {M : Type 1} → statement M
 walk-spec =
     tie.close
-    (tie.spec
-    Inv-loop
-    μ-loop
-    loop-holds
-    mul-hold
-    element-copy-out-hold
-    mul-hold-2
-    element-copy-out-hold-2
-    mul-hold-3
-    array-read-hold
-    hold-requires
-    mul-burst
-    element-copy-out-burst
-    burst-requires
-    div-own
-    add-bytes
-    mul-if1
-    array-read-if1
-    unworked-requires
-    returns
-    mul-slots
-    array-read-slots
-    slots-requires
-    mul-backlog
-    array-write-backlog
-    mul-delay
-    array-write-delay
-    mul-raise
-    element-copy-out-raise
-    less-one-requires
-    mul-raise-2
-    array-read-raise
-    add-raise
-    raise-requires
-    add-w
-    loop-less
-    loop-again
-    returns-2)
+    (tie.spec Inv-loop μ-loop loop-holds mul-hold element-copy-out-hold mul-hold-2 element-copy-out-hold-2 mul-hold-3
+    array-read-hold hold-requires mul-burst element-copy-out-burst burst-requires div-own add-bytes mul-if1 array-read-if1
+    unworked-requires returns mul-slots array-read-slots slots-requires mul-backlog array-write-backlog mul-delay
+    array-write-delay mul-raise element-copy-out-raise less-one-requires mul-raise-2 array-read-raise add-raise
+    raise-requires add-w loop-less loop-again returns-2)

@@ -50,17 +50,5 @@ returns-2 c = counts _ _ (omega arith)
 pub bytes-spec : {M : Type 1} → statement M
 bytes-spec =
     tie.close
-    (tie.spec
-    Inv-loop
-    μ-loop
-    loop-holds
-    hex-byte-requires
-    same-length
-    returns
-    cast-out
-    slice-write-out
-    add-n
-    loop-less
-    loop-again
-    same-length-2
-    returns-2)
+    (tie.spec Inv-loop μ-loop loop-holds hex-byte-requires same-length returns cast-out slice-write-out add-n loop-less
+    loop-again same-length-2 returns-2)

@@ -50,18 +50,5 @@ returns-3 c = search needs
 pub number-spec : {M : Type 1} → statement M
 number-spec =
     tie.close
-    (tie.spec
-    Inv-loop
-    μ-loop
-    loop-holds
-    shared-slice-read-hex-digit
-    hex-digit-requires
-    returns
-    sub-if2
-    returns-2
-    mul-n
-    add-n
-    add-i
-    loop-less
-    loop-again
-    returns-3)
+    (tie.spec Inv-loop μ-loop loop-holds shared-slice-read-hex-digit hex-digit-requires returns sub-if2 returns-2 mul-n
+    add-n add-i loop-less loop-again returns-3)
