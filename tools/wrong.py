@@ -216,7 +216,8 @@ class Sharing:
                     # A function's body is seen by its own proof alone: any other goes by its contract.
                     if self.proves(error, change):
                         return f"its fact stands in {change.detail}, whose function {other.label} changes"
-                elif change[:2] in rests and not self.field_apart(own, change, error) and not self.seen_apart(wrong, error, other):
+                elif change[:2] in rests and not (
+                        self.field_apart(own, change, error) or self.seen_apart(wrong, error, other)):
                     return f"its fact rests on {change.name} too, which {other.label} changes"
         return None
 

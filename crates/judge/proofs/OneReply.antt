@@ -11,6 +11,7 @@ use Rattle.judge.proofs.judge.Kinds as judge-kinds
 use Rattle.judge.proofs.judge.Reads as judge-reads
 
 pub judge-one :
-    (κs : Lfts 2) (a : ArgsD judge.signature κs) (r r' : ResD judge.signature κs) (e e' : AtExit (endedOf 2 judge-kinds.ps judge-kinds.r) κs) →
+    (κs : Lfts 2) (a : ArgsD judge.signature κs) (r r' : ResD judge.signature κs)
+    (e e' : AtExit (endedOf 2 judge-kinds.ps judge-kinds.r) κs) →
     judge-reads.Post κs a r e → judge-reads.Post κs a r' e' → (r ≡ r') × (now (e .1 .0) ≡ now (e' .1 .0))
 judge-one κs a r r' e e' p q = (judging-one r r' (p .0 ∙ sym (q .0)), p .1 ∙ sym (q .1))

@@ -24,7 +24,8 @@ use Rattle.judge.proofs.judge as judge
 use Rattle.judge.proofs.judge.Kinds as judge-kinds
 use Rattle.judge.proofs.judge.Reads as judge-reads
 
-module _ (κs : Lfts 2) (a : ArgsD judge.signature κs) (r : ResD judge.signature κs) (e : AtExit (endedOf 2 judge-kinds.ps judge-kinds.r) κs) (met : judge-reads.Post κs a r e) where
+module _ (κs : Lfts 2) (a : ArgsD judge.signature κs) (r : ResD judge.signature κs)
+    (e : AtExit (endedOf 2 judge-kinds.ps judge-kinds.r) κs) (met : judge-reads.Post κs a r e) where
   abbrev table : List ℕ
   table = now (a .0)
 

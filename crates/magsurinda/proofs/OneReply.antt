@@ -19,22 +19,26 @@ use Rattle.magsurinda.proofs.magsurinda_ask_channel.Kinds as ask-channe
 use Rattle.magsurinda.proofs.magsurinda_ask_channel.Reads as ask-channel-reads
 
 pub price-one :
-    (κs : Lfts 0) (a : ArgsD price.signature κs) (r r' : ResD price.signature κs) (e e' : AtExit (endedOf 0 price-kinds.ps price-kinds.r) κs) →
+    (κs : Lfts 0) (a : ArgsD price.signature κs) (r r' : ResD price.signature κs)
+    (e e' : AtExit (endedOf 0 price-kinds.ps price-kinds.r) κs) →
     price-reads.Post κs a r e → price-reads.Post κs a r' e' → r ≡ r'
 price-one κs a r r' e e' p q = p ∙ sym q
 
 module _ (κs : Lfts 1) where
   pub ask-wire-one :
-      (a : ArgsD ask-wire.signature κs) (r r' : ResD ask-wire.signature κs) (e e' : AtExit (endedOf 1 ask-wire-kinds.ps ask-wire-kinds.r) κs) →
+      (a : ArgsD ask-wire.signature κs) (r r' : ResD ask-wire.signature κs)
+      (e e' : AtExit (endedOf 1 ask-wire-kinds.ps ask-wire-kinds.r) κs) →
       ask-wire-reads.Post κs a r e → ask-wire-reads.Post κs a r' e' → r ≡ r'
   ask-wire-one a r r' e e' p q = p ∙ sym q
 
   pub ask-channel-one :
-      (a : ArgsD ask-channel.signature κs) (r r' : ResD ask-channel.signature κs) (e e' : AtExit (endedOf 1 ask-channel-kinds.ps ask-channel-kinds.r) κs) →
+      (a : ArgsD ask-channel.signature κs) (r r' : ResD ask-channel.signature κs)
+      (e e' : AtExit (endedOf 1 ask-channel-kinds.ps ask-channel-kinds.r) κs) →
       ask-channel-reads.Post κs a r e → ask-channel-reads.Post κs a r' e' → r ≡ r'
   ask-channel-one a r r' e e' p q = p ∙ sym q
 
 pub judge-one :
-    (κs : Lfts 2) (a : ArgsD judge.signature κs) (r r' : ResD judge.signature κs) (e e' : AtExit (endedOf 2 judge-kinds.ps judge-kinds.r) κs) →
+    (κs : Lfts 2) (a : ArgsD judge.signature κs) (r r' : ResD judge.signature κs)
+    (e e' : AtExit (endedOf 2 judge-kinds.ps judge-kinds.r) κs) →
     judge-reads.Post κs a r e → judge-reads.Post κs a r' e' → (r ≡ r') × (now (e .1 .0) ≡ now (e' .1 .0))
 judge-one κs a r r' e e' p q = (p .0 ∙ sym (q .0), p .1 ∙ sym (q .1))

@@ -25,5 +25,6 @@ module _ (value : List ℕ → ℕ) {reply : Reply} where
 
 -- the parts, taken apart again
 pub unpacked : (number place value : ℕ) → place < 2 ^ 8 → value < 2 ^ 48
-    → (packing number place value / 2 ^ 56 ≡ number) × (packing number place value / 2 ^ 48 % 2 ^ 8 ≡ place) × (packing number place value % 2 ^ 48 ≡ value)
+    → (packing number place value / 2 ^ 56 ≡ number) × (packing number place value / 2 ^ 48 % 2 ^ 8 ≡ place)
+    × (packing number place value % 2 ^ 48 ≡ value)
 unpacked number place value a b = omega arith

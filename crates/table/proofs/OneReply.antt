@@ -13,7 +13,8 @@ use Rattle.table.proofs.read.Kinds as read-kinds
 use Rattle.table.proofs.read.Reads as read-reads
 
 module _ (κs : Lfts 0) where
-  pub none-one : (a : ArgsD none.signature κs) (r r' : ResD none.signature κs) (e e' : AtExit (endedOf 0 none-kinds.ps none-kinds.r) κs)
+  pub none-one : (a : ArgsD none.signature κs) (r r' : ResD none.signature κs)
+      (e e' : AtExit (endedOf 0 none-kinds.ps none-kinds.r) κs)
       → none-reads.Post κs a r e → none-reads.Post κs a r' e' → r ≡ r'
   none-one a r r' e e' p q = p ∙ sym q
 

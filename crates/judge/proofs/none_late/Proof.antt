@@ -52,7 +52,8 @@ returns c =
     let top = c .before .before .before .before in
     let less : k top < t top .channels = omega (arith, told top .number) in
     from-stop (deadlineTest (t top)) (t top .channels) (k top) less (top .loop .inv .1)
-    (deadline-stops (t top) (k top) (omega (arith, told top .end-told (k top) (omega arith), told top .deadline-told (k top) (omega arith))))
+    (deadline-stops (t top) (k top)
+    (omega (arith, told top .end-told (k top) (omega arith), told top .deadline-told (k top) (omega arith))))
 
 add-k : tie.Need-add-k Inv-loop μ-loop
 add-k c = search needs

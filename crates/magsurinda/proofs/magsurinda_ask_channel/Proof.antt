@@ -13,10 +13,12 @@ use Rattle.magsurinda.proofs.Packing.{granted-bounds, refused-bounds, p
 use Rattle.magsurinda.proofs.magsurinda_ask_channel.Statement.{statement}
 use Rattle.magsurinda.proofs.magsurinda_ask_channel.Tie as tie
 
-told : (c : tie.After-ask-channel) {a : AskedChannel} → c .ask-channel .result ≡ a → channelReply a ≡ askChannel (c .before .before .args .sheet .now) (c .before .before .args .channel)
+told : (c : tie.After-ask-channel) {a : AskedChannel} → c .ask-channel .result ≡ a
+    → channelReply a ≡ askChannel (c .before .before .args .sheet .now) (c .before .before .args .channel)
 told c e = ap channelReply (sym e) ∙ c .ask-channel .ensures
 
-small : (c : tie.After-ask-channel) → Small EndDelay (askChannel (c .before .before .args .sheet .now) (c .before .before .args .channel))
+small : (c : tie.After-ask-channel)
+    → Small EndDelay (askChannel (c .before .before .args .sheet .now) (c .before .before .args .channel))
 small c = channel-small (c .before .before .args .sheet .now) (c .before .before .args .channel)
 
 ask-channel-requires : tie.Need-ask-channel-requires

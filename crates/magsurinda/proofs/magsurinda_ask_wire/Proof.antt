@@ -13,10 +13,12 @@ use Rattle.magsurinda.proofs.Packing.{granted-bounds, refused-bounds, p
 use Rattle.magsurinda.proofs.magsurinda_ask_wire.Statement.{statement}
 use Rattle.magsurinda.proofs.magsurinda_ask_wire.Tie as tie
 
-told : (c : tie.After-ask-wire) {a : AskedWire} → c .ask-wire .result ≡ a → wireReply a ≡ askWire (c .before .before .args .sheet .now) (c .before .before .args .wire)
+told : (c : tie.After-ask-wire) {a : AskedWire} → c .ask-wire .result ≡ a
+    → wireReply a ≡ askWire (c .before .before .args .sheet .now) (c .before .before .args .wire)
 told c e = ap wireReply (sym e) ∙ c .ask-wire .ensures
 
-small : (c : tie.After-ask-wire) → Small WireFigures (askWire (c .before .before .args .sheet .now) (c .before .before .args .wire))
+small : (c : tie.After-ask-wire)
+    → Small WireFigures (askWire (c .before .before .args .sheet .now) (c .before .before .args .wire))
 small c = wire-small (c .before .before .args .sheet .now) (c .before .before .args .wire)
 
 ask-wire-requires : tie.Need-ask-wire-requires

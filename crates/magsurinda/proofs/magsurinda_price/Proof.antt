@@ -13,7 +13,8 @@ use Rattle.magsurinda.proofs.Packing.{granted-bounds, refused-bounds, p
 use Rattle.magsurinda.proofs.magsurinda_price.Statement.{statement}
 use Rattle.magsurinda.proofs.magsurinda_price.Tie as tie
 
-told : (c : tie.After-price) {a : Pricing} → c .price .result ≡ a → pricingReply a ≡ askPrice (c .before .args .framing) (c .before .args .payload)
+told : (c : tie.After-price) {a : Pricing} → c .price .result ≡ a
+    → pricingReply a ≡ askPrice (c .before .args .framing) (c .before .args .payload)
 told c e = ap pricingReply (sym e) ∙ c .price .ensures
 
 small : (c : tie.After-price) → Small Price (askPrice (c .before .args .framing) (c .before .args .payload))
