@@ -7,14 +7,17 @@ use Rattle.bits.specs.Field.{bit, field, putBit, putField}
 use Rattle.rules.specs.Words.{sum, total, listed, has, begins, some}
 use Rattle.rules.specs.Replies.{granted, refused, test, each}
 use Rattle.rules.specs.Price.{lastBytes, price, askPrice}
-use Rattle.rules.specs.Table.{hyperOf, wiresOf, channelsOf, wireAt, codeOf, rateOf, propOf, roomOf, framingAt, payloadAt, periodAt, deadlineAt, hopsAt, routeAt, channelAt, endOf, fillingOf}
+use Rattle.rules.specs.Table.{hyperOf, wiresOf, channelsOf, wireAt, codeOf, rateOf, propOf, roomOf, framingAt}
+use Rattle.rules.specs.Table.{payloadAt, periodAt, deadlineAt, hopsAt, routeAt, channelAt, endOf, fillingOf}
 use Rattle.rules.specs.Channel.{valueTests, hopTests}
 use Rattle.rules.specs.Reading.{headTests, wireTests, recordTests, channelTests, fillingTests, readingTests, reading}
 use Rattle.rules.specs.Office.{K}
-use Rattle.rules.specs.Bounds.{loadOf, load, along, jitter, shareOf, burst, backlogAfter, delayAfter, delaysBelow, backlog, delay, endToEnd}
+use Rattle.rules.specs.Bounds.{loadOf, load, along, jitter, shareOf, burst, backlogAfter}
+use Rattle.rules.specs.Bounds.{delayAfter, delaysBelow, backlog, delay, endToEnd}
 use Rattle.rules.specs.Sheet.{figuresAt, endAt, sheetLength, withHead, withWires, withChannels, sheetOf}
 use Rattle.rules.specs.Judgement.{loadTest, roomTest, deadlineTest, boundsTests, judge, sheet, leaves, buffer}
-use Rattle.rules.specs.Cases.{Case, priced, caseA, caseASheet, caseALate, cases, Same, Hold, MarkedCases, all, _and_, figuresOf, evaluate}
+use Rattle.rules.specs.Cases.{Case, priced, caseA, caseASheet, caseALate, cases, Same, Hold}
+use Rattle.rules.specs.Cases.{MarkedCases, all, _and_, figuresOf, evaluate}
 
 -- Case by case and figure by figure: where one differs, the refusal names it.
 abbrev Each : List Case → Type 0
@@ -27,7 +30,12 @@ hold (c ∷ cs) e = e .0 and hold cs (e .1)
 
 -- what the cases are computed by
 unfoldable definitions : Unit {0}
-unfolding bit field putBit putField sum total has begins some test each lastBytes price askPrice hyperOf wiresOf channelsOf wireAt codeOf rateOf propOf roomOf framingAt payloadAt periodAt deadlineAt hopsAt routeAt channelAt endOf fillingOf headTests wireTests valueTests hopTests recordTests channelTests fillingTests readingTests reading loadOf load along jitter shareOf K burst backlogAfter delayAfter delaysBelow backlog delay endToEnd figuresAt endAt sheetLength withHead withWires withChannels sheetOf loadTest roomTest deadlineTest boundsTests judge sheet leaves buffer listed figuresOf evaluate
+unfolding bit field putBit putField sum total has begins some test each lastBytes price askPrice hyperOf wiresOf channelsOf
+    wireAt codeOf rateOf propOf roomOf framingAt payloadAt periodAt deadlineAt hopsAt routeAt channelAt endOf fillingOf
+    headTests wireTests valueTests hopTests recordTests channelTests fillingTests readingTests reading loadOf load along
+    jitter shareOf K burst backlogAfter delayAfter delaysBelow backlog delay endToEnd figuresAt endAt sheetLength withHead
+    withWires withChannels sheetOf loadTest roomTest deadlineTest boundsTests judge sheet leaves buffer listed figuresOf
+    evaluate
 definitions = tt
 
 abbrev nth : ℕ → Case
