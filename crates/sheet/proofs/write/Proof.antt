@@ -1,6 +1,6 @@
 -- `sheet::write` meets its contract: the buffer is filled, and where all fits its first bytes are made the sheet.
 -- Assumes nothing.
-use mathlib.Core.Path.{_≡_, refl, sym, _∙_}
+use mathlib.Core.Path.{_≡_, refl, sym, ap, _∙_}
 use mathlib.Core.Bool.{true, false}
 use Prim.Native.Nat.{ℕ, _≤_, _<_}
 use native.Mathlib.Omega.{arith}
@@ -8,6 +8,7 @@ use borrow.Author.Needs.{needs}
 use borrow.Author.Tests.{le-leb, lt-leb, not-true, not-false}
 use lib.ListN.{length, take}
 use lib.Seq.{length-take-le}
+use Rattle.rules.specs.declared.Written.the-variants.{Length}
 use Rattle.rules.specs.Words.{entries}
 use Rattle.rules.specs.Sheet.{fits, figuresAt, endAt, sheetLength}
 use Rattle.rules.proofs.Sheet.Fitting.{FitsFigures, true-fits}
@@ -140,7 +141,7 @@ returns-3 c =
     let x = a .figures in
     let inside : sheetLength (a .wires) (a .channels) ≤ length (a .sheet .now) = omega (arith, l .sheet-length .ensures) in
     rw (fit (l .before), le-leb _ _ inside) (
-      rw (l .sheet-length .ensures),
+      ap Length (l .sheet-length .ensures),
       sheet-put (a .wires) (a .channels) (entries (x .backlog)) (entries (x .delay))
           (entries (x .end)) (long l) (a .sheet .now) (f .fill .last .0) (z .fill2 .last .0) (h .put-head .last .0)
           (w .put-wires .last .0) (e .put-channels .last .0) (l .sheet-length .ensures) (omega (arith, l .sheet-length .ensures))
