@@ -35,7 +35,7 @@ fn none_over(
 }
 
 // 12 over all wires, then 13 over all wires, each lowest number first.
-fn work(table: &[u8], t: Table) -> Worked
+fn work_out(table: &[u8], t: Table) -> Worked
     requires { ⌜ AsRead (now table) t ⌝ }
     ensures { λ r. ⌜ Answered (boundsTests (viewOf (now (table .entry)))) (r .answer) ⌝ }
     ensures { λ r. ⌜ r .figures ≡ figuresLeft (readingReply (r .answer)) (viewOf (now (table .entry))) ⌝ }
@@ -70,7 +70,7 @@ pub fn bounds(table: &[u8]) -> Bounded
             figures,
         };
     }
-    let worked = work(table, t);
+    let worked = work_out(table, t);
     let answer = worked.answer;
     let figures = worked.figures;
     if let Reading::Refused(_, _) = answer {

@@ -41,8 +41,8 @@ module _ (c : tie.After-enum-told2) where
   whole : reading (s reader) ≡ granted []
   whole = sym (reader .read .ensures .0) ∙ ap readingReply (c .enum-told2 .given .1)
 
-work-requires : tie.Need-work-requires
-work-requires c κs =
+work-out-requires : tie.Need-work-out-requires
+work-out-requires c κs =
     let r = reader c in
     record {
       sound = granted-sound (s r) (whole c);
@@ -61,7 +61,7 @@ returns-2 c =
     let w = c .before .before .before .before in
     let e = w .before in
     left-over (s (reader e)) _ _ _ (given .0 .0) (given .0 .1 .0) (given .1) (whole e)
-    (λ rest. w .work .ensures .0 rest ∙ rw (given .1)) (c .none .ensures) (w .work .ensures .1)
+    (λ rest. w .work-out .ensures .0 rest ∙ rw (given .1)) (c .none .ensures) (w .work-out .ensures .1)
 
 enum-told-4 : tie.Need-enum-told-4
 enum-told-4 c = search needs
@@ -72,10 +72,10 @@ returns-3 c =
     let w = c .before .before .before in
     let e = w .before in
     left-bounded (s (reader e)) _ _ _ (given .1) (whole e)
-    (λ rest. w .work .ensures .0 rest ∙ rw (given .1)) (reader e .read .ensures .1) (w .work .ensures .1)
+    (λ rest. w .work-out .ensures .0 rest ∙ rw (given .1)) (reader e .read .ensures .1) (w .work-out .ensures .1)
 
 pub bounds-spec : {M : Type 1} → statement M
 bounds-spec =
     tie.close
-    (tie.spec read-requires enum-told no-figures-requires returns enum-told-2 work-requires enum-told-3 none-requires
+    (tie.spec read-requires enum-told no-figures-requires returns enum-told-2 work-out-requires enum-told-3 none-requires
     returns-2 enum-told-4 returns-3)

@@ -1,4 +1,4 @@
--- `bounds::work` meets its contract: test 12, then test 13 of the walk.
+-- `bounds::work_out` meets its contract: test 12, then test 13 of the walk.
 use mathlib.Core.Path.{_≡_, refl, ap₂, _∙_}
 use mathlib.Core.List.{List}
 use Prim.Native.Nat.{ℕ, _*_, _<_}
@@ -17,8 +17,8 @@ use Rattle.bounds.specs.Stages.{FiledAll, AheadAll, Loads}
 use Rattle.bounds.proofs.Stretches.{filed-none, filed-stretch, next-load}
 use Rattle.bounds.proofs.Holding.{ahead-none}
 use Rattle.bounds.proofs.Left.{left-refused, loads-stop, loads-through, rooms-after}
-use Rattle.bounds.proofs.work.Statement.{statement}
-use Rattle.bounds.proofs.work.Tie as tie
+use Rattle.bounds.proofs.work_out.Statement.{statement}
+use Rattle.bounds.proofs.work_out.Tie as tie
 
 module _ (c : tie.Start) where
   abbrev t : View
@@ -134,8 +134,8 @@ returns-2 c =
       c .walk .ensures .1,
     )
 
-pub work-spec : {M : Type 1} → statement M
-work-spec =
+pub work-out-spec : {M : Type 1} → statement M
+work-out-spec =
     tie.close
     (tie.spec file-requires file-firsts-requires none-over-requires enum-told unworked-requires returns enum-told-2
     walk-requires returns-2)
