@@ -1,7 +1,7 @@
 -- Laws of bits and fields, over lists of numbers. Where no bound on a byte is asked, the list need not be of bytes.
 use mathlib.Core.Path.{_≡_, refl, sym, ap, ap₂, subst, _∙_}
 use mathlib.Core.Logic.{_≢_, _⊎_, inl, inr}
-use mathlib.Core.Bool.{Bool, true, false, _&&_, cond}
+use mathlib.Core.Bool.{Bool, true}
 use mathlib.Core.List.{List, _++_}
 use Prim.Native.Nat.{ℕ, zero, suc, _+_, _-_, _*_, _/_, _%_, _^_, _≤_, _<_}
 use native.Mathlib.Nat.{zero-lt-suc, le-dest, add-zero, add-suc, pow-suc, zero-div, mod-lt}
@@ -10,13 +10,12 @@ use native.Mathlib.Decide.{ℕ-discrete, decLt}
 use native.Mathlib.Omega.{arith}
 use lib.ListN.{length, getD, set, take, replicate, length-set, List·getD-eq-default, List·getD-append}
 use lib.Seq.{getD-set-same, getD-set-other, set-out, getD-take, getD-append-add, ext-getD}
-use lib.Dec.{leb}
 use lib.Arith.{digits-lt, digits-mod}
 use lib.Pow.{pow-pos, pow-add, shr-lt, shr-shr, split, high, mod-pow-add}
 use borrow.Author.Tests.{le-leb, leb-true, lt-ltb}
 use Rattle.bits.specs.Field.{bit, field, within, byteWith, putBit, putField, Bytes}
 use Rattle.bits.specs.Field.{widest, served, takenOf, numberOf, fieldFits, wroteField}
-use Rattle.bits.specs.declared.Taken.the-variants.{Number, Nothing}
+use Rattle.bits.specs.declared.Taken.the-variants.{Number}
 
 -- ---- one binary digit of a number
 
@@ -231,9 +230,6 @@ field-none s at (suc w) h =
 pub field-zeros : (n at w : ℕ) → field (replicate n 0) at w ≡ 0
 field-zeros n at w = field-none (replicate n 0) at w (λ i l m. bit-zeros n i)
 
-pub field-past : (s : List ℕ) (at w : ℕ) → 8 * length s ≤ at → field s at w ≡ 0
-field-past s at w h = field-none s at w (λ i l m. bit-past s i (omega arith))
-
 -- the first a bits are the high digits
 pub field-split : (s : List ℕ) (at a b : ℕ) → field s at (a + b) ≡ field s at a * 2 ^ b + field s (at + a) b
 unfolding field
@@ -245,12 +241,6 @@ field-split s at a (suc b) =
 
 pub field-append : (s t : List ℕ) (at w : ℕ) → at + w ≤ 8 * length s → field (s ++ t) at w ≡ field s at w
 field-append s t at w h = field-cong (s ++ t) s at w (λ i l m. bit-append s t i (omega arith))
-
-pub field-append-past : (s t : List ℕ) (at w : ℕ) → field (s ++ t) (8 * length s + at) w ≡ field t at w
-field-append-past s t at w =
-    field-same (s ++ t) t (8 * length s + at) at w (λ k l.
-    let e : 8 * length s + at + k ≡ 8 * length s + (at + k) = omega arith in
-    ap (λ (m : ℕ). bit (s ++ t) m) e ∙ bit-append-past s t (at + k))
 
 pub field-take : (s : List ℕ) (n at w : ℕ) → at + w ≤ 8 * n → field (take n s) at w ≡ field s at w
 field-take s n at w h = field-cong (take n s) s at w (λ i l m. bit-take s n i (omega arith))
@@ -300,22 +290,6 @@ bytes-putField s at (suc w) v h =
 
 pub within-le : (s : List ℕ) (at w : ℕ) → within s at w ≡ true → at + w ≤ 8 * length s
 within-le s at w e = leb-true (at + w) (8 * length s) e
-
-both : (a b : Bool) → (a && b) ≡ true → (a ≡ true) × (b ≡ true)
-both true b e = (refl, e)
-both false b e = (e, cc)
-
-number : (b : Bool) (n v : ℕ) → cond b (Number n) Nothing ≡ Number v → (b ≡ true) × (v ≡ n)
-number true n v e = (refl, cc)
-number false n v e = (cc, cc)
-
--- a number that was read is the field's, which is served
-pub takenOf-is : (s : List ℕ) (at w v : ℕ) → takenOf s at w ≡ Number v
-    → (v ≡ field s at w) × (w ≤ widest) × (at + w ≤ 8 * length s)
-takenOf-is s at w v e =
-    let n : (served s at w ≡ true) × (v ≡ field s at w) = number (served s at w) (field s at w) v e in
-    let b : (leb w widest ≡ true) × (within s at w ≡ true) = both (leb w widest) (within s at w) (n .0) in
-    (n .1, leb-true w widest (b .0), within-le s at w (b .1))
 
 -- where the field is served
 module _ (s : List ℕ) (at w : ℕ) (narrow : w ≤ widest) (inside : at + w ≤ 8 * length s) where

@@ -7,7 +7,7 @@ use Prim.Native.Nat.{ℕ, zero, suc, _+_, _*_, _≤_, _<_}
 use native.Mathlib.Nat.{add-zero, add-suc}
 use native.Mathlib.Decide.{decLe, ℕ-discrete}
 use native.Mathlib.Omega.{arith}
-use Rattle.rules.specs.Words.{sum, total, gathered, begins, some}
+use Rattle.rules.specs.Words.{sum, total, gathered, some}
 
 pub bool-cases : (b : Bool) → (b ≡ true) ⊎ (b ≡ false)
 bool-cases true = inl refl
@@ -118,11 +118,6 @@ module _ (f : ℕ → Bool) where
   unfolding some
   none-some zero h = refl
   none-some (suc n) h = rw (none-some n (λ k l. h k (omega arith)), h n (omega arith)) refl
-
--- no wire begins an empty route
-pub begins-none : (w : ℕ) → begins w [] ≡ false
-unfolding begins
-begins-none w = refl
 
 module _ {A : Type 0} where
   pub total-append : (g : A → ℕ) (xs ys : List A) → total g (xs ++ ys) ≡ total g xs + total g ys

@@ -12,7 +12,7 @@ use Rattle.rules.specs.Price.{payloadTest}
 abbrev pub divides : ℕ → ℕ → Bool
 divides p h = ltb 0 p && eqb (h % p) 0
 
--- 6: payload 0. 7: period 0 or no divisor of H. 8: hops 0 or over 8.
+-- 6: payload 0 or over 65,535. 7: period 0 or no divisor of H. 8: hops 0 or over 8.
 unfoldable pub valueTests : ℕ → ℕ → ℕ → ℕ → ℕ → Reply → Reply
 valueTests c hyper payload period hops rest =
     payloadTest c payload (test (divides period hyper) 7 c (test (between 1 hops hopsMost) 8 c rest))

@@ -1,6 +1,6 @@
 -- Document 01, with requests Q-2 (prices) and Q-4 (office machines), as definitions, a file for each of its sections.
--- What stands here is what a reader must believe. Decoded is no section of it: it is the code's arrays over those
--- definitions.
+-- What stands here is what a reader must believe. Three are no section of it: Decoded, the code's arrays over those
+-- definitions, and Sound and Fits, what holds of every view that passed tests 1 to 11 and of what a sheet can hold.
 pub mod Words
 pub mod Numbers
 pub mod Replies

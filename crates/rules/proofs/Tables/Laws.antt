@@ -166,10 +166,6 @@ module _ (s : List ℕ) where
   pub passes-reading : Passes s → (rest : Reply) → readingTests s rest ≡ rest
   passes-reading = gate-through reading-gate
 
-  pub passes-granted : Passes s → reading s ≡ granted []
-  unfolding reading
-  passes-granted p = passes-reading p (granted [])
-
   pub reading-refused : (n p : ℕ) → reading s ≡ refused n p → (rest : Reply) → readingTests s rest ≡ refused n p
   unfolding reading
   reading-refused n p e = gate-refused reading-gate [] n p e
@@ -216,11 +212,6 @@ module _ (s : List ℕ) where
         hops-most = λ k l. rw length-route (r .channel k l .values .hops-most);
         climbs = λ k l. r .channel k l .climbs;
       }
-
-  pub reading-sound : (rest : Reply) (v : List ℕ) → readingTests s rest ≡ granted v → Sound (viewOf s) × (rest ≡ granted v)
-  reading-sound rest v e =
-      let g = gate-granted (reading-gate s) rest v e in
-      (passes-sound (g .0 .fields), g .1)
 
   pub granted-sound : reading s ≡ granted [] → Sound (viewOf s)
   granted-sound e = passes-sound (reading-passes s e .fields)
