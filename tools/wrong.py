@@ -13,8 +13,8 @@ from sources import text, words_of
 # A wrong program: its run, its label, the lines of its edit, and the file and message of its fact.
 Wrong = namedtuple("Wrong", "run label lines file message")
 Error = namedtuple("Error", "file line message")
-# What a wrong program changes: a function's body, its proof as the detail; a declaration of specs/, the field of a record as the
-# detail where it changes one.
+# What a wrong program changes: a function's body, its proof as the detail (a constant that no other function names belongs to
+# it); a declaration of specs/, the field of a record as the detail where it changes one.
 Change = namedtuple("Change", "file name detail")
 
 
@@ -148,13 +148,34 @@ def edited(crate, wrong):
     return {file: (text(crate / file), after) for file, after in became.items()}
 
 
-def changes_in(file, before, after):
+def body_of(function):
+    return Change("src", function.path[-1], "/".join(("proofs", *function.path, "Proof.antt")))
+
+
+def constant_in(file, before, after, others):
+    """Where all that changes is constants that one function alone of the crate names, that function, as a change of its body."""
+    users, names = sources.functions_in(file, before), set()
+    for old, new in zip(before.splitlines(), after.splitlines()):
+        m = re.match(r"const (\w+): ", old)
+        if old != new and not (m and new.startswith(m[0])):
+            return {None}
+        names |= {m[1]} if old != new else set()
+    rest = sources.outside(file, before) + " ".join(others)
+    for name in names:
+        named = re.compile(r"\b%s\b" % name)
+        users = [f for f in users if named.search(f.body)]
+        if len(named.findall(rest)) > 1 or sum(bool(named.search(f.body)) for f in sources.functions_in(file, before)) != 1:
+            return {None}
+    return {body_of(f) for f in users} if names and len(users) == 1 else {None}
+
+
+def changes_in(file, before, after, others=()):
     """What of a file changes; None stands for anything but functions' bodies and declarations of specs/."""
     if file.startswith("src/"):
         if sources.outside(file, before) != sources.outside(file, after):
-            return {None}
+            return constant_in(file, before, after, others)
         pairs = zip(sources.functions_in(file, before), sources.functions_in(file, after))
-        return {Change("src", f.path[-1], "/".join(("proofs", *f.path, "Proof.antt"))) for f, g in pairs if f.body != g.body}
+        return {body_of(f) for f, g in pairs if f.body != g.body}
     found, lines = set(), list(zip(sources.bare(before).splitlines(), sources.bare(after).splitlines()))
     for number in (number for number, (old, new) in enumerate(lines, 1) if old != new):
         d = sources.at(before, number) if file.startswith("specs/") else None
@@ -174,7 +195,10 @@ class Sharing:
 
     def changes(self, wrong):
         if wrong.label not in self.known:
-            found = set().union(*(changes_in(file, *pair) for file, pair in edited(self.crate, wrong).items()))
+            code = dict(sources.files(self.crate, "src", ".rt"))
+            found = set().union(*(
+                changes_in(file, *pair, [said for name, said in code.items() if name != file])
+                for file, pair in edited(self.crate, wrong).items()))
             self.known[wrong.label] = found or {None}
         return self.known[wrong.label]
 
@@ -214,7 +238,7 @@ class Sharing:
             for change in self.changes(other) - {None}:
                 if change.file == "src":
                     # A function's body is seen by its own proof alone: any other goes by its contract.
-                    if self.proves(error, change):
+                    if self.proves(error, change) and not self.seen_apart(wrong, error, other):
                         return f"its fact stands in {change.detail}, whose function {other.label} changes"
                 elif change[:2] in rests and not (
                         self.field_apart(own, change, error) or self.seen_apart(wrong, error, other)):
