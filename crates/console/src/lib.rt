@@ -186,8 +186,9 @@ fn move_to_front(bytes: &mut [u8], from: usize, n: usize)
     }
 }
 
-pub fn print(text: &[u8]) {
-    io::write_all(STDOUT_FILENO, text);
+// Whether all of it was written.
+pub fn print(text: &[u8]) -> bool {
+    io::write_all(STDOUT_FILENO, text)
 }
 
 // A blank and a number.

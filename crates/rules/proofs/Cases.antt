@@ -4,7 +4,7 @@ use mathlib.Core.List.{List, [], _∷_}
 use Prim.Native.Nat.{ℕ}
 use lib.ListN.{getD, replicate}
 use Rattle.bits.specs.Field.{bit, field, putBit, putField}
-use Rattle.rules.specs.Words.{sum, total, listed, has, begins, some}
+use Rattle.rules.specs.Words.{sum, total, listed, gathered, has, begins, some}
 use Rattle.rules.specs.Replies.{granted, refused, test, each}
 use Rattle.rules.specs.Price.{lastBytes, price, askPrice}
 use Rattle.rules.specs.Table.{hyperOf, wiresOf, channelsOf, wireAt, codeOf, rateOf, propOf, roomOf, framingAt}
@@ -16,6 +16,7 @@ use Rattle.rules.specs.Bounds.{loadOf, load, along, jitter, shareOf, bur
 use Rattle.rules.specs.Bounds.{delayAfter, delaysBelow, backlog, delay, endToEnd}
 use Rattle.rules.specs.Sheet.{figuresAt, endAt, sheetLength, withHead, withWires, withChannels, sheetOf}
 use Rattle.rules.specs.Judgement.{loadTest, roomTest, deadlineTest, boundsTests, judge, sheet, leaves, buffer}
+use Rattle.rules.specs.Text.{word, digits, decimal, spaced, line, lines, acceptedText, refusedText, textOf, text}
 use Rattle.rules.specs.Cases.{Case, priced, caseA, caseASheet, caseALate, cases, Same, Hold}
 use Rattle.rules.specs.Cases.{MarkedCases, all, _and_, figuresOf, evaluate}
 
@@ -35,7 +36,7 @@ unfolding bit field putBit putField sum total has begins some test each lastByte
     headTests wireTests valueTests hopTests recordTests channelTests fillingTests readingTests reading loadOf load along
     jitter shareOf K burst backlogAfter delayAfter delaysBelow backlog delay endToEnd figuresAt endAt sheetLength withHead
     withWires withChannels sheetOf loadTest roomTest deadlineTest boundsTests judge sheet leaves buffer listed figuresOf
-    evaluate
+    word digits decimal spaced line lines acceptedText refusedText textOf text gathered evaluate
 definitions = tt
 
 abbrev nth : ℕ → Case
@@ -229,6 +230,18 @@ row45 : Row 45
 unfolding definitions
 row45 = (refl, refl, refl, refl, refl, refl)
 
+row46 : Row 46
+unfolding definitions
+row46 = (refl, refl, refl, refl, refl, refl)
+
+row47 : Row 47
+unfolding definitions
+row47 = (refl, refl, refl, refl, refl, refl)
+
+row48 : Row 48
+unfolding definitions
+row48 = (refl, refl, refl, refl, refl, refl)
+
 each-holds : Each cases
 each-holds = (
   row0,
@@ -312,7 +325,7 @@ each-holds = (
                                                                                 row39,
                                                                                 (
                                                                                   row40,
-                                                                                  (row41, (row42, (row43, (row44, (row45, tt))))),
+                                                                                  (row41, (row42, (row43, (row44, (row45, (row46, (row47, (row48, tt)))))))),
                                                                                 ),
                                                                               ),
                                                                             ),

@@ -11,3 +11,4 @@ pub mod Small
 pub mod Sums
 pub mod Tables
 pub mod Tests
+pub mod Text

@@ -4,19 +4,23 @@
 use mathlib.Core.Path.{_≡_}
 use mathlib.Core.List.{List, [], _∷_}
 use Prim.Native.Nat.{ℕ}
+use Prim.Native.String.{String}
 use Rattle.rules.specs.Words.{listed}
+use Rattle.rules.specs.Numbers.{sheetLongest}
 use Rattle.rules.specs.Replies.{Reply, granted, refused}
 use Rattle.rules.specs.Price.{askPrice}
 use Rattle.rules.specs.Table.{View, viewOf}
 use Rattle.rules.specs.Reading.{reading}
 use Rattle.rules.specs.Bounds.{load, backlog, delay, endToEnd}
 use Rattle.rules.specs.Judgement.{judge, buffer}
+use Rattle.rules.specs.Text.{word, text}
 
--- A price for a framing and a payload, a table's bytes read alone, or judged with so many bytes lent.
+-- A price for a framing and a payload, a table's bytes read alone, or judged with so many bytes lent, or the text that is printed.
 pub data Question : Type 0 where
   pricing : ℕ → ℕ → Question
   readAlone : List ℕ → Question
   judging : List ℕ → ℕ → Question
+  printing : List ℕ → Question
 
 -- The reply, each wire's load, backlog and delay, each channel's end-to-end delay, and the lent buffer afterwards.
 pub record Figures : Type 0 where
@@ -38,13 +42,17 @@ figuresOf reply t bytes =
       buffer = bytes;
     }
 
+abbrev pub replyAndBytes : Reply → List ℕ → Figures
+replyAndBytes reply bytes = record { reply = reply; loads = []; backlogs = []; delays = []; ends = []; buffer = bytes }
+
 abbrev pub onlyReply : Reply → Figures
-onlyReply reply = record { reply = reply; loads = []; backlogs = []; delays = []; ends = []; buffer = [] }
+onlyReply reply = replyAndBytes reply []
 
 unfoldable pub evaluate : Question → Figures
 evaluate (pricing framing payload) = onlyReply (askPrice framing payload)
 evaluate (readAlone s) = onlyReply (reading s)
 evaluate (judging s lent) = figuresOf (judge s lent) (viewOf s) (buffer s lent)
+evaluate (printing s) = replyAndBytes (judge s sheetLongest) (text s)
 
 pub record Case : Type 0 where
   pub question : Question
@@ -56,6 +64,9 @@ priced framing payload bytes =
 
 abbrev pub readAs : List ℕ → ℕ → ℕ → Case
 readAs s number place = record { question = readAlone s; figures = onlyReply (refused number place) }
+
+abbrev pub prints : List ℕ → Reply → String → Case
+prints s reply said = record { question = printing s; figures = replyAndBytes reply (word said) }
 
 -- Case A's table, to the byte, and its sheet.
 abbrev pub caseA : List ℕ
@@ -78,6 +89,13 @@ caseB =
     0x00 ∷ 0x01 ∷ 0x08 ∷ 0x02 ∷ 0x06 ∷ 0x00 ∷ 0x00 ∷ 0x09 ∷ 0xc4 ∷ 0x00 ∷ 0x00 ∷ 0x10 ∷ 0x00 ∷ 0x10 ∷ 0x80 ∷ 0x02 ∷ 0x71 ∷ 0x01
     ∷ 0x00 ∷ 0x00 ∷ 0x02 ∷ 0x00 ∷ 0x02 ∷ 0x10 ∷ 0x00 ∷ 0x4e ∷ 0x20 ∷ 0x20 ∷ 0x00 ∷ 0x00 ∷ 0x40 ∷ 0x00 ∷ 0x42 ∷ 0x00 ∷ 0x09
     ∷ 0xc4 ∷ 0x04 ∷ 0x00 ∷ []
+
+-- Case C with wire 1 at rate 10.
+abbrev pub caseCFast : List ℕ
+caseCFast =
+    0x00 ∷ 0x03 ∷ 0x48 ∷ 0x04 ∷ 0x06 ∷ 0x00 ∷ 0xe0 ∷ 0x09 ∷ 0xc4 ∷ 0x08 ∷ 0x0e ∷ 0x00 ∷ 0x9c ∷ 0x40 ∷ 0x00 ∷ 0x01 ∷ 0x00
+    ∷ 0x03 ∷ 0x48 ∷ 0x00 ∷ 0x27 ∷ 0x10 ∷ 0x20 ∷ 0x01 ∷ 0x00 ∷ 0x00 ∷ 0x80 ∷ 0x01 ∷ 0xa4 ∷ 0x00 ∷ 0x13 ∷ 0x88 ∷ 0x10 ∷ 0x00
+    ∷ 0x80 ∷ 0x00 ∷ 0x40 ∷ 0x00 ∷ 0x69 ∷ 0x00 ∷ 0x09 ∷ 0xc4 ∷ 0x04 ∷ 0x10 ∷ []
 
 abbrev pub cases : List Case
 cases =
@@ -178,9 +196,7 @@ cases =
     })
     -- Case C with wire 1 at rate 10.
     ∷ (record {
-      question = judging (0x00 ∷ 0x03 ∷ 0x48 ∷ 0x04 ∷ 0x06 ∷ 0x00 ∷ 0xe0 ∷ 0x09 ∷ 0xc4 ∷ 0x08 ∷ 0x0e ∷ 0x00 ∷ 0x9c ∷ 0x40 ∷ 0x00
-          ∷ 0x01 ∷ 0x00 ∷ 0x03 ∷ 0x48 ∷ 0x00 ∷ 0x27 ∷ 0x10 ∷ 0x20 ∷ 0x01 ∷ 0x00 ∷ 0x00 ∷ 0x80 ∷ 0x01 ∷ 0xa4 ∷ 0x00 ∷ 0x13 ∷ 0x88
-          ∷ 0x10 ∷ 0x00 ∷ 0x80 ∷ 0x00 ∷ 0x40 ∷ 0x00 ∷ 0x69 ∷ 0x00 ∷ 0x09 ∷ 0xc4 ∷ 0x04 ∷ 0x10 ∷ []) 27;
+      question = judging caseCFast 27;
       figures =
           record {
             reply = granted (25 ∷ []);
@@ -387,6 +403,11 @@ cases =
             buffer = 0xff ∷ 0xff ∷ 0xff ∷ 0xff ∷ 0xff ∷ 0xff ∷ 0xff ∷ 0xff ∷ 0xff ∷ 0xff ∷ 0xff ∷ [];
           };
     })
+    -- What the board prints: case A; with deadline 3,178; and case C with wire 1 at rate 10.
+    ∷ prints caseA (granted (12 ∷ [])) "accepted 1 1\nlink 0 3172 3172\nchannel 0 3179 3179\n"
+    ∷ prints caseALate (refused 14 0) "refused 14 0\n"
+    ∷ prints caseCFast (granted (25 ∷ []))
+    "accepted 2 3\nlink 0 3260 3260\nlink 1 4036 404\nchannel 0 3678 10000\nchannel 1 3678 10000\nchannel 2 411 10000\n"
     ∷ []
 
 -- figure by figure

@@ -15,6 +15,7 @@ pub mod Decoded
 pub mod Fits
 pub mod Sheet
 pub mod Judgement
+pub mod Text
 pub mod Machine
 pub mod Cases
 pub mod Incident

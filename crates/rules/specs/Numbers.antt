@@ -102,10 +102,14 @@ endBits = 28
 abbrev pub sheetLongest : ℕ
 sheetLongest = 834
 
+-- Enough for any text that the board prints: a first line of 16 bytes, 64 wire lines of 26 and 128 channel lines of 30.
+abbrev pub textEnough : ℕ
+textEnough = 5520
+
 -- All but the rates, in the order above.
 abbrev pub numbers : List ℕ
 numbers =
     slotNs ∷ hyperBits ∷ hyperMost ∷ wiresBits ∷ wiresMost ∷ channelsBits ∷ channelsMost ∷ headBits ∷ rateBits ∷ propBits
     ∷ roomBits ∷ wireBits ∷ framingBits ∷ payloadBits ∷ payloadMost ∷ periodBits ∷ deadlineBits ∷ hopsBits ∷ hopsMost
     ∷ routesMost ∷ fixedBits ∷ hopBits ∷ tableLongest ∷ sheetHeadBits ∷ backlogBits ∷ delayBits ∷ figuresBits
-    ∷ endBits ∷ sheetLongest ∷ []
+    ∷ endBits ∷ sheetLongest ∷ textEnough ∷ []

@@ -150,10 +150,12 @@ impl Table {
     pub const END_BITS: usize = 28;
 
     pub const SHEET_LONGEST: usize = 834;
+
+    pub const TEXT_ENOUGH: usize = 5_520;
 }
 
 // The constants above, each tied to its number in the definitions.
-pub fn constants() -> [usize; 29]
+pub fn constants() -> [usize; 30]
     ensures { λ r. ⌜ r ≡ numbers ⌝ }
 {
     [
@@ -186,5 +188,6 @@ pub fn constants() -> [usize; 29]
         Table::FIGURES_BITS,
         Table::END_BITS,
         Table::SHEET_LONGEST,
+        Table::TEXT_ENOUGH,
     ]
 }

@@ -147,6 +147,13 @@ module _ (s : List ℕ) (lent : ℕ) where
   unfolding judge
   accepted-judge r = gate-through judge-gate r (granted (lengthOf (viewOf s) ∷ []))
 
+  pub accepted-bounding : Accepted s lent → bounding s ≡ granted []
+  unfolding bounding
+  accepted-bounding r =
+      passes-reading s (r .passes) _
+      ∙ gate-through (carried-gate (viewOf s))
+      (record { loads = r .bounded .loads; backlogs = r .bounded .backlogs }) (granted [])
+
   -- there is no third reply
   pub judge-cases : (judge s lent ≡ granted (lengthOf (viewOf s) ∷ [])) ⊎ ((n : ℕ) × (p : ℕ) × (judge s lent ≡ refused n p))
   unfolding judge
