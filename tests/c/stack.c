@@ -1,24 +1,18 @@
-/* How much stack judging the longest table takes: run on a painted stack, less what an empty thread takes. */
+/* How much stack judging the longest table takes: run on a painted stack, less what an empty thread takes. It is to be within
+   what the header says. */
 #define _XOPEN_SOURCE 700
 #include "magsurinda.h"
+#include "draft.h"
 #include <pthread.h>
 #include <stdio.h>
 #include <stdlib.h>
-#include <string.h>
 
 enum { STACK = 1 << 20, PAINT = 0xAA, WIRES = 64, CHANNELS = 128, HOPS = 8 };
 
-static uint8_t table[2165], sheet[834];
-static size_t at;
-
-static void put(unsigned width, uint32_t number) {
-    while (width-- > 0) {
-        table[at / 8] |= (uint8_t)((number >> width & 1) << (7 - at % 8));
-        at++;
-    }
-}
+static uint8_t sheet[MAGSURINDA_SHEET_LONGEST];
 
 static void longest_table(void) {
+    draft_begin();
     put(24, 12500000), put(7, WIRES), put(8, CHANNELS);
     for (unsigned w = 0; w < WIRES; w++)
         put(2, 2), put(10, 0), put(24, 0xFFFFFF);
@@ -32,7 +26,7 @@ static void longest_table(void) {
 static void *nothing(void *reply) { return reply; }
 
 static void *judging(void *reply) {
-    *(uint64_t *)reply = magsurinda_judge(table, sizeof table, sheet, sizeof sheet);
+    *(uint64_t *)reply = magsurinda_judge(draft, draft_bytes(), sheet, sizeof sheet);
     return reply;
 }
 
@@ -58,5 +52,13 @@ int main(void) {
     longest_table();
     size_t empty = used(nothing, &reply), judged = used(judging, &reply);
     printf("judging the longest table, reply %llx: %zu bytes of stack\n", (unsigned long long)reply, judged - empty);
-    return reply == sizeof sheet ? 0 : 1;
+    if (draft_bytes() != MAGSURINDA_TABLE_LONGEST || magsurinda_number(reply) != MAGSURINDA_GRANTED) {
+        puts("the longest table: FAILED");
+        return 1;
+    }
+    if (judged - empty > MAGSURINDA_STACK) {
+        puts("MAGSURINDA_STACK: FAILED");
+        return 1;
+    }
+    return 0;
 }
