@@ -28,6 +28,10 @@ extern "C" {
 /* Bytes of stack that no call exceeds: measured at the longest table (tests/stack), with some 5,000 to spare; not proved. */
 #define MAGSURINDA_STACK 40960
 
+/* Which requests are in the rules that this header is of, bit k for request Q-k: Q-2, the priority tag, and Q-4, the office
+   machines. magsurinda_requests() says it of the library; a caller whose header and archive may differ compares the two. */
+#define MAGSURINDA_REQUESTS (UINT64_C(1) << 2 | UINT64_C(1) << 4)
+
 /* Document 01's numbers of refusal. The place is a wire's or a channel's number where the line names one, else 0. */
 enum magsurinda_refusal {
     MAGSURINDA_GRANTED = 0,
@@ -72,6 +76,9 @@ uint64_t magsurinda_ask_channel(const uint8_t *sheet, size_t sheet_len, uint64_t
 /* The price in bytes on the wire, the priority tag counted, of a payload: framing 0 plain, 1 with IP and UDP. Refused: 20,
    then 6. */
 uint64_t magsurinda_price(uint64_t framing, uint64_t payload);
+
+/* Which requests are in the rules that the library is proved for, as MAGSURINDA_REQUESTS; no reply of the form above. */
+uint64_t magsurinda_requests(void);
 
 /* Of any reply: its number, which is MAGSURINDA_GRANTED or a refusal's; its place; and what is granted, 0 where nothing is. */
 static inline unsigned magsurinda_number(uint64_t reply) { return (unsigned)(reply >> 56); }

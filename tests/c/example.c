@@ -61,6 +61,10 @@ int main(void) {
     printf("a table has at most %d bytes, a sheet %d; a call takes at most %d bytes of stack\n", MAGSURINDA_TABLE_LONGEST,
            MAGSURINDA_SHEET_LONGEST, MAGSURINDA_STACK);
 
+    printf("requests in the header: %#llx, in the library: %#llx\n", (unsigned long long)MAGSURINDA_REQUESTS,
+           (unsigned long long)magsurinda_requests());
+    expect("header and library are of the same rules", magsurinda_requests() == MAGSURINDA_REQUESTS);
+
     memset(sheet, 7, sizeof sheet);
     uint64_t reply = magsurinda_judge(table, sizeof table, sheet, sizeof sheet);
     show("case A", reply);

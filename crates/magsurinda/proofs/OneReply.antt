@@ -11,6 +11,9 @@ use Rattle.magsurinda.proofs.magsurinda_judge.Reads as judge-reads
 use Rattle.magsurinda.proofs.magsurinda_price as price
 use Rattle.magsurinda.proofs.magsurinda_price.Kinds as price-kinds
 use Rattle.magsurinda.proofs.magsurinda_price.Reads as price-reads
+use Rattle.magsurinda.proofs.magsurinda_requests as requests
+use Rattle.magsurinda.proofs.magsurinda_requests.Kinds as requests-kinds
+use Rattle.magsurinda.proofs.magsurinda_requests.Reads as requests-reads
 use Rattle.magsurinda.proofs.magsurinda_ask_wire as ask-wire
 use Rattle.magsurinda.proofs.magsurinda_ask_wire.Kinds as ask-wire-kinds
 use Rattle.magsurinda.proofs.magsurinda_ask_wire.Reads as ask-wire-reads
@@ -23,6 +26,12 @@ pub price-one :
     (e e' : AtExit (endedOf 0 price-kinds.ps price-kinds.r) κs) →
     price-reads.Post κs a r e → price-reads.Post κs a r' e' → r ≡ r'
 price-one κs a r r' e e' p q = p ∙ sym q
+
+pub requests-one :
+    (κs : Lfts 0) (a : ArgsD requests.signature κs) (r r' : ResD requests.signature κs)
+    (e e' : AtExit (endedOf 0 requests-kinds.ps requests-kinds.r) κs) →
+    requests-reads.Post κs a r e → requests-reads.Post κs a r' e' → r ≡ r'
+requests-one κs a r r' e e' p q = p ∙ sym q
 
 module _ (κs : Lfts 1) where
   pub ask-wire-one :

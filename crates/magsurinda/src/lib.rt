@@ -3,6 +3,7 @@ ghost use mathlib.Core.Path.{_≡_};
 ghost use Prim.Native.Nat.{_+_, _*_, _^_, _<_};
 ghost use lib.ListN.{length};
 ghost use Rattle.rules.specs.Judgement.{judge as judgeOf, buffer};
+ghost use Rattle.rules.specs.Numbers.{requests};
 ghost use Rattle.rules.specs.Price.{askPrice};
 ghost use Rattle.rules.specs.Sheet.{askWire, askChannel};
 ghost use Rattle.magsurinda.specs.Packed.{packing, packed, only, figures};
@@ -76,4 +77,12 @@ pub extern "C" fn magsurinda_ask_channel(sheet: &[u8], channel: u64) -> u64
         AskedChannel::Delay(delay) => pack(0, 0, delay),
         AskedChannel::Refused(number, place) => pack(number, place, 0),
     }
+}
+
+// Bit k is set where request Q-k is in.
+#[no_mangle]
+pub extern "C" fn magsurinda_requests() -> u64
+    ensures { λ r. ⌜ r ≡ requests ⌝ }
+{
+    (1 << 2) + (1 << 4)
 }

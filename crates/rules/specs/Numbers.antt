@@ -1,7 +1,7 @@
 -- The numbers of document 01: "the slot length, the count limits and the field widths are constants of the table itself,
 -- stated once". The associated constants of the type Table in src/ are held to them by `constants`.
 use mathlib.Core.List.{List, [], _∷_}
-use Prim.Native.Nat.{ℕ, _+_, _*_}
+use Prim.Native.Nat.{ℕ, _+_, _*_, _^_}
 
 -- One slot is 80 ns.
 abbrev pub slotNs : ℕ
@@ -113,3 +113,7 @@ numbers =
     ∷ roomBits ∷ wireBits ∷ framingBits ∷ payloadBits ∷ payloadMost ∷ periodBits ∷ deadlineBits ∷ hopsBits ∷ hopsMost
     ∷ routesMost ∷ fixedBits ∷ hopBits ∷ tableLongest ∷ sheetHeadBits ∷ backlogBits ∷ delayBits ∷ figuresBits
     ∷ endBits ∷ sheetLongest ∷ textEnough ∷ []
+
+-- Which requests these definitions have taken in: bit k is set where request Q-k is.
+abbrev pub requests : ℕ
+requests = 2 ^ 2 + 2 ^ 4
