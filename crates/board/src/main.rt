@@ -12,7 +12,7 @@ fn show(table: &[u8]) {
         console::complain(b"board: the text is too long\n");
         return;
     };
-    if !console::print(&said[..length as usize]) {
+    if !console::write(&said[..length as usize]) {
         console::complain(b"board: standard output cannot be written\n");
     }
 }

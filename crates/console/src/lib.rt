@@ -186,9 +186,13 @@ fn move_to_front(bytes: &mut [u8], from: usize, n: usize)
     }
 }
 
-// Whether all of it was written.
-pub fn print(text: &[u8]) -> bool {
+// Whether all of it was written to standard output.
+pub fn write(text: &[u8]) -> bool {
     io::write_all(STDOUT_FILENO, text)
+}
+
+pub fn print(text: &[u8]) {
+    write(text);
 }
 
 // A blank and a number.

@@ -32,11 +32,11 @@ returns c = search needs
 array-share-prefix-bytes : tie.Need-array-share-prefix-bytes
 array-share-prefix-bytes c = counted (c .before) .0
 
-slice-aggregate-judge-and-show : tie.Need-slice-aggregate-judge-and-show
-slice-aggregate-judge-and-show c = counted (c .before .before) .1
+slice-aggregate-show : tie.Need-slice-aggregate-show
+slice-aggregate-show c = counted (c .before .before) .1
 
-judge-and-show-requires : tie.Need-judge-and-show-requires
-judge-and-show-requires c κs = search needs
+show-requires : tie.Need-show-requires
+show-requires c κs = search needs
 
 returns-2 : tie.Need-returns-2
 returns-2 c = search needs
@@ -45,4 +45,4 @@ pub main-spec : {M : Type 1} → statement M
 main-spec =
     tie.close
     (tie.spec slice-aggregate-read-whole read-whole-requires enum-known-n enum-told slice-aggregate-complain
-    complain-requires returns array-share-prefix-bytes slice-aggregate-judge-and-show judge-and-show-requires returns-2)
+    complain-requires returns array-share-prefix-bytes slice-aggregate-show show-requires returns-2)

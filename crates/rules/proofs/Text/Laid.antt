@@ -200,3 +200,14 @@ module _ (lent : ℕ) (w : List ℕ) {b left : List ℕ} {after : ℕ} (filled :
         | yes m ↦ absurd (omega (arith, l, place, place-in lent 0 w (omega (arith, m)), m))
         | no o ↦ (rw (lt-leb (length w) lent (omega arith)) refl, rw (lt-leb (length w) lent (omega arith)) refl)
       ]
+
+-- what was written is at the start of the buffer
+pub written-within : (w : List ℕ) (lent n : ℕ) → textWritten w lent ≡ Length n → n ≤ length (textLeft w lent)
+written-within w lent n e =
+    elim (decLe (length w) lent) [
+      | yes m ↦
+          let same : n ≡ length w = cc (e, le-leb (length w) lent m) in
+          let left : textLeft w lent ≡ w ++ replicate (lent - length w) 255 = rw (le-leb (length w) lent m) refl in
+          omega (arith, same, ap length left, length-append w (replicate (lent - length w) 255))
+      | no o ↦ let z : _≡_ {A = ℕ} 0 1 = cc (e, lt-leb (length w) lent (omega arith)) in absurd (omega arith)
+    ]
