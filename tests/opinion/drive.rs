@@ -296,15 +296,21 @@ impl<'a> Drive<'a> {
         }
     }
 
-    /// Wrong figures that the adversaries left standing.
+    /// What shows too little: wrong figures that the adversaries left standing, and kinds of tables that hardly came.
     pub fn without_teeth(&self) -> Vec<String> {
+        let wrong =
+            self.wrong.iter().map(|w| (format!("wrong on purpose, {}: exceeded", w.what), w.broken, EACH_WRONG));
+        let met = [
+            ("a later wire: met", self.with_later, EACH_WRONG),
+            ("an unused wire: met", self.with_unused, EACH_WRONG),
+            ("a route of 8 wires: met", self.eight_hops, 1),
+        ];
+        let met = met.into_iter().map(|(what, count, asked)| (what.to_string(), count, asked));
+        let few = wrong.chain(met).filter(|&(_, count, asked)| count < asked);
         let mut all: Vec<String> =
-            self.wrong.iter().filter(|w| w.broken < EACH_WRONG).map(|w| w.what.to_string()).collect();
-        if self.of_frames == 0 || self.eight_hops == 0 || self.rates.contains(&0) {
-            all.push("messages of several frames, eight hops and three rates".to_string());
-        }
-        if self.with_later < EACH_WRONG || self.with_unused < EACH_WRONG {
-            all.push("tables with a later wire, and with an unused one".to_string());
+            few.map(|(what, count, asked)| format!("{what} on {count} tables, {asked} are asked for")).collect();
+        if self.of_frames == 0 || self.rates.contains(&0) {
+            all.push("a message of several frames and a wire of each rate: not all met".to_string());
         }
         all
     }
