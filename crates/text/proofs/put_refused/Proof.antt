@@ -1,6 +1,6 @@
 -- `text::put_refused` meets its contract.
 use borrow.Author.Needs.{needs}
-use Rattle.rules.specs.Text.{word, line, refusedText}
+use Rattle.rules.specs.Text.{word, refusedText, Put}
 use Rattle.text.proofs.put_refused.Statement.{statement}
 use Rattle.text.proofs.put_refused.Tie as tie
 
@@ -17,8 +17,10 @@ same-length : tie.Need-same-length
 same-length c = search needs
 
 returns : tie.Need-returns
-unfolding refusedText line word
-returns c = search needs
+unfolding refusedText word
+returns c =
+    let put = c .before .before .put-line in
+    record { place = put .ensures .0; bytes = put .ensures .1 }
 
 pub put-refused-spec : {M : Type 1} → statement M
 put-refused-spec =
