@@ -7,7 +7,7 @@ use Rattle.rules.specs.Numbers.{sheetLongest}
 use Rattle.rules.specs.Replies.{Reply, granted, judgingReply}
 use Rattle.rules.specs.Table.{viewOf}
 use Rattle.rules.specs.Judgement.{judge}
-use Rattle.rules.specs.Text.{text, textOf}
+use Rattle.rules.specs.Text.{refusedText, text, textOf, Put}
 use Rattle.rules.proofs.Bounds.Judgement.{judge-accepted, accepted-bounding}
 use Rattle.rules.proofs.Text.Laid.{put-as}
 use Rattle.text.proofs.put_text.Statement.{statement}
@@ -70,7 +70,12 @@ unfolding textOf
 returns-2 c =
     let known = c .before .before .before .before .before in
     let at = known .before .before .before in
-    put-as (said (s at) _ (sym (replied at) ∙ ap judgingReply (known .number .given .1))) (c .before .before .put-refused .ensures)
+    let put = c .before .before .put-refused in
+    let told = known .number .given in
+    let refusal : Put (at .before .before .before .before .args .lent .now) 0 (refusedText (told .0 .0) (told .0 .1 .0))
+    (put .result) (put .last .0) =
+    put .ensures in
+    put-as (said (s at) _ (sym (replied at) ∙ ap judgingReply (told .1))) refusal
 
 pub put-text-spec : {M : Type 1} → statement M
 put-text-spec =
