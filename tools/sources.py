@@ -46,10 +46,15 @@ def cut(code):
     return code[:start], code[start:], ""
 
 
+def plain(source):
+    """A text of Rattle without its comments, and each literal as one word: no brace in it counts, and no two are the same."""
+    return IGNORED_RT.sub(lambda m: " " if m[0][0] == "/" else m[0].encode().hex(), source)
+
+
 @lru_cache(maxsize=None)
 def functions_in(file, source):
     """The functions of a file of src/, given by its path in the crate and its text."""
-    code = IGNORED_RT.sub(" ", source)
+    code = plain(source)
     modules = Path(file).relative_to("src").with_suffix("").parts
     if modules[-1] in ("lib", "main", "mod"):
         modules = modules[:-1]
@@ -78,7 +83,7 @@ def functions(crate):
 
 def outside(file, source):
     """A file of src/ without the bodies of its functions."""
-    code, found = IGNORED_RT.sub(" ", source), functions_in(file, source)
+    code, found = plain(source), functions_in(file, source)
     before = len(code) - sum(len(f.head + f.body + f.behind) for f in found)
     return code[:before] + "".join(f.head + f.behind for f in found)
 

@@ -152,21 +152,25 @@ def body_of(function):
     return Change("src", function.path[-1], "/".join(("proofs", *function.path, "Proof.antt")))
 
 
+CONSTANT = re.compile(r"^ *(?:pub )?const (\w+): .*?;$", re.M | re.S)
+
+
 def constant_in(file, before, after, others):
     """Where all that changes is constants that one function alone of the crate names, that function, as a change of its body."""
-    users, names = sources.functions_in(file, before), set()
-    for old, new in zip(before.splitlines(), after.splitlines()):
-        m = re.match(r"const (\w+): ", old)
-        if old != new and not (m and new.startswith(m[0])):
-            return {None}
-        names |= {m[1]} if old != new else set()
-    rest = sources.outside(file, before) + " ".join(others)
-    for name in names:
-        named = re.compile(r"\b%s\b" % name)
-        users = [f for f in users if named.search(f.body)]
-        if len(named.findall(rest)) > 1 or sum(bool(named.search(f.body)) for f in sources.functions_in(file, before)) != 1:
-            return {None}
-    return {body_of(f) for f in users} if names and len(users) == 1 else {None}
+    pairs = list(zip(CONSTANT.finditer(before), CONSTANT.finditer(after)))
+    if CONSTANT.sub("", before) != CONSTANT.sub("", after):
+        return {None}
+    names = {old[1] for old, new in pairs if old[0] != new[0]}
+    rest, found = sources.outside(file, before) + " ".join(others), set()
+    for named in (re.compile(r"\b%s\b" % name) for name in names):
+        users = [f for f in sources.functions_in(file, before) if named.search(f.body)]
+        found |= {body_of(users[0])} if len(users) == 1 and len(named.findall(rest)) == 1 else {None}
+    return found if len(found) == 1 else {None}
+
+
+def brings(old, new):
+    """Whether all that a line changes is that a `use` brings further names: by themselves they change nothing."""
+    return old.startswith("use ") and old.endswith("}") and new.startswith(old[:-1] + ",")
 
 
 def changes_in(file, before, after, others=()):
@@ -177,7 +181,7 @@ def changes_in(file, before, after, others=()):
         pairs = zip(sources.functions_in(file, before), sources.functions_in(file, after))
         return {body_of(f) for f, g in pairs if f.body != g.body}
     found, lines = set(), list(zip(sources.bare(before).splitlines(), sources.bare(after).splitlines()))
-    for number in (number for number, (old, new) in enumerate(lines, 1) if old != new):
+    for number in (number for number, (old, new) in enumerate(lines, 1) if old != new and not brings(old, new)):
         d = sources.at(before, number) if file.startswith("specs/") else None
         found.add(Change(file, d.name, sources.field_at(d, number)) if d else None)
     return found

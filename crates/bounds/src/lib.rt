@@ -4,6 +4,8 @@ mod filing;
 mod walking;
 
 ghost use mathlib.Core.Path.{_≡_};
+ghost use Prim.Native.Nat.{_*_, _^_, _<_};
+ghost use lib.Dec.{ltb};
 ghost use Rattle.rules.specs.Replies.{readingReply, Answered};
 ghost use Rattle.rules.specs.Table.{viewOf};
 ghost use Rattle.rules.specs.Decoded.{tableLeft, figuresLeft};
@@ -15,7 +17,15 @@ use rules::Reading;
 use rules::Row;
 use rules::Table;
 
-// 12: the lowest wire whose load is over rate × H.
+// Whether a wire's load is over rate × H.
+fn over(load: u64, rate: u64, hyper: u64) -> bool
+    requires { ⌜ rate * hyper < 2 ^ 64 ⌝ }
+    ensures { λ r. ⌜ r ≡ ltb (rate * hyper) load ⌝ }
+{
+    rate * hyper < load
+}
+
+// 12: the lowest wire that is over.
 fn none_over(
     table: &[u8],
     load: &[u64; Table::WIRES_MOST],
@@ -27,7 +37,7 @@ fn none_over(
     ensures { λ r. ⌜ Answered (loadTests (viewOf (now (table .entry)))) r ⌝ }
 {
     for w in 0..n {
-        if rate[w] * hyper < load[w] {
+        if over(load[w], rate[w], hyper) {
             return Reading::Refused(12, w as u64);
         }
     }

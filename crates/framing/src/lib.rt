@@ -10,18 +10,16 @@ use rules::Row;
 use rules::Table;
 
 // The table of framings: plain; with IP and UDP.
-const ROWS: [Row; 2] = [
-    Row {
-        most: 1492,
-        overhead: 50,
-        least: 38,
-    },
-    Row {
-        most: 1464,
-        overhead: 78,
-        least: 10,
-    },
-];
+const PLAIN: Row = Row {
+    most: 1492,
+    overhead: 50,
+    least: 38,
+};
+const UDP: Row = Row {
+    most: 1464,
+    overhead: 78,
+    least: 10,
+};
 
 // By rate code.
 const RATES: [u64; 3] = [1, 10, 100];
@@ -47,12 +45,19 @@ fn last_bytes(row: Row, rest: u64) -> u64
     }
 }
 
+fn row_of(framing: u64) -> Row
+    requires { ⌜ framing < 2 ⌝ }
+    ensures { λ r. ⌜ r ≡ rowOf framing ⌝ }
+{
+    if framing == 0 { PLAIN } else { UDP }
+}
+
 // The price of a payload in a framing, both in their ranges.
-fn priced(framing: usize, payload: u64) -> u64
+fn priced(framing: u64, payload: u64) -> u64
     requires { ⌜ (framing < 2) × (payload ≤ payloadMost) ⌝ }
     ensures { λ r. ⌜ r ≡ priceOf framing payload ⌝ }
 {
-    let row = ROWS[framing];
+    let row = row_of(framing);
     payload / row.most * Row::FULL_FRAME + last_bytes(row, payload % row.most)
 }
 
@@ -69,5 +74,5 @@ pub fn price(framing: u64, payload: u64) -> Pricing
     if (Table::PAYLOAD_MOST as u64) < payload {
         return Pricing::Refused(6, 0);
     }
-    Pricing::Price(priced(framing as usize, payload))
+    Pricing::Price(priced(framing, payload))
 }

@@ -1,9 +1,14 @@
 -- `bounds::none_over` meets its contract. The loop's invariant: test 12 from the start is that from wire w.
+use mathlib.Core.Path.{_≡_, sym, _∙_}
+use mathlib.Core.Bool.{Bool, true, false}
 use Prim.Native.Nat.{ℕ, _-_, _*_, _≤_, _<_}
 use native.Mathlib.Omega.{arith}
+use lib.Dec.{ltb}
 use borrow.Author.Needs.{needs}
+use borrow.Author.Tests.{ltb-true, ltb-false}
 use Rattle.rules.specs.Numbers.{wiresMost}
 use Rattle.rules.specs.Table.{View, viewOf}
+use Rattle.rules.specs.Bounds.{load}
 use Rattle.rules.specs.Judgement.{loadTest}
 use Rattle.rules.proofs.Tests.{gate-through}
 use Rattle.rules.proofs.Tables.Search.{FromHere, from-start, from-next, from-stop, from-end}
@@ -22,46 +27,54 @@ loop-holds : tie.Need-loop-holds Inv-loop μ-loop
 loop-holds c = (omega arith, from-start _ _)
 
 module _ (c : tie.At-loop Inv-loop μ-loop) where
+  abbrev st : tie.Start Inv-loop μ-loop
+  st = c .before .before
+
   abbrev t : View
-  t = viewOf (c .before .args .table .now)
+  t = viewOf (st .args .table .now)
 
   abbrev w : ℕ
   w = c .loop .w
 
-  told : Loads (c .before .args .table .now) (c .before .args .load .now) (c .before .args .rate .now)
-      (c .before .args .hyper) (c .before .args .n)
-  told = c .before .pre
+  told : Loads (st .args .table .now) (st .args .load .now) (st .args .rate .now) (st .args .hyper) (st .args .n)
+  told = st .pre
 
 module _ (c : tie.In-loop Inv-loop μ-loop) where
   most : w (c .before) < wiresMost
   most = omega (arith, c .loop-test .taken, told (c .before) .most)
 
-mul-if1 : tie.Need-mul-if1 Inv-loop μ-loop
-mul-if1 c = omega (arith, most c)
+mul-over : tie.Need-mul-over Inv-loop μ-loop
+mul-over c = omega (arith, most c)
 
-element-copy-out-if1 : tie.Need-element-copy-out-if1 Inv-loop μ-loop
-element-copy-out-if1 c = most c
+element-copy-out-over : tie.Need-element-copy-out-over Inv-loop μ-loop
+element-copy-out-over c = most c
 
-mul-if1-2 : tie.Need-mul-if1-2 Inv-loop μ-loop
-mul-if1-2 c = let top = c .before .before in record { fits = told top .limit-fits (w top) (omega arith) }
+mul-over-2 : tie.Need-mul-over-2 Inv-loop μ-loop
+mul-over-2 c = omega (arith, most (c .before))
 
-mul-if1-3 : tie.Need-mul-if1-3 Inv-loop μ-loop
-mul-if1-3 c = omega (arith, most (c .before))
+element-copy-out-over-2 : tie.Need-element-copy-out-over-2 Inv-loop μ-loop
+element-copy-out-over-2 c = most (c .before)
 
-element-copy-out-if1-2 : tie.Need-element-copy-out-if1-2 Inv-loop μ-loop
-element-copy-out-if1-2 c = most (c .before)
+over-requires : tie.Need-over-requires Inv-loop μ-loop
+over-requires c κs = let top = c .before .before .before in told top .limit-fits (w top) (omega arith)
 
-module _ (c : tie.After-if13 Inv-loop μ-loop) where
+module _ (c : tie.After-over Inv-loop μ-loop) where
   abbrev top : tie.At-loop Inv-loop μ-loop
-  top = c .before .before .before
+  top = c .before .before .before .before
+
+  less : w top < t top .wires
+  less = omega (arith, told top .number)
+
+  -- what the test says of the wire
+  limit : (b : Bool) → c .over .result ≡ b → ltb (t top .rate (w top) * t top .hyper) (load (t top) (w top)) ≡ b
+  limit b e = rw (sym (told top .limit-told (w top) (omega arith)), sym (told top .load-told (w top) (omega arith)))
+      (sym (c .over .ensures) ∙ e)
 
 returns : tie.Need-returns Inv-loop μ-loop
 returns c =
     let top = top (c .before) in
-    let less : w top < t top .wires = omega (arith, told top .number) in
-    from-stop (loadTest (t top)) (t top .wires) (w top) less (top .loop .inv .1)
-    (load-stops (t top) (w top)
-    (omega (arith, told top .load-told (w top) (omega arith), told top .limit-told (w top) (omega arith))))
+    from-stop (loadTest (t top)) (t top .wires) (w top) (less (c .before)) (top .loop .inv .1)
+    (load-stops (t top) (w top) (ltb-true _ _ (limit (c .before) true (c .if1 .taken))))
 
 add-w : tie.Need-add-w Inv-loop μ-loop
 add-w c = search needs
@@ -71,12 +84,12 @@ loop-less c = search needs
 
 loop-again : tie.Need-loop-again Inv-loop μ-loop
 loop-again c =
-    let top = top (c .before) in
-    let less : w top < t top .wires = omega (arith, told top .number) in (
+    let o = c .before in
+    let top = top o in (
       omega arith,
-      from-next (loadTest (t top)) (t top .wires) (w top) less (top .loop .inv .1)
+      from-next (loadTest (t top)) (t top .wires) (w top) (less o) (top .loop .inv .1)
           (gate-through (load-gate (t top) (w top))
-          (omega (arith, told top .load-told (w top) (omega arith), told top .limit-told (w top) (omega arith)))),
+          (ltb-false _ _ (limit o false (c .if1 .left)))),
     )
 
 returns-2 : tie.Need-returns-2 Inv-loop μ-loop
@@ -87,5 +100,5 @@ returns-2 c =
 pub none-over-spec : {M : Type 1} → statement M
 none-over-spec =
     tie.close
-    (tie.spec Inv-loop μ-loop loop-holds mul-if1 element-copy-out-if1 mul-if1-2 mul-if1-3 element-copy-out-if1-2 returns
-    add-w loop-less loop-again returns-2)
+    (tie.spec Inv-loop μ-loop loop-holds mul-over element-copy-out-over mul-over-2 element-copy-out-over-2 over-requires
+    returns add-w loop-less loop-again returns-2)

@@ -1,48 +1,43 @@
 -- `framing::priced` meets its contract.
-use mathlib.Core.Path.{refl}
+use mathlib.Core.Path.{refl, sym, subst}
 use borrow.Author.Needs.{needs}
 use Prim.Native.Nat.{_%_}
 use native.Mathlib.Omega.{arith}
 use native.Mathlib.Nat.{div-le-self, mod-lt}
-use Rattle.rules.specs.Price.{rowOf, price}
-use Rattle.rules.proofs.Price.{fair, last-most}
+use Rattle.rules.specs.Price.{price}
+use Rattle.rules.proofs.Price.{Fair, fair, last-most}
 use Rattle.framing.proofs.priced.Statement.{statement}
 use Rattle.framing.proofs.priced.Tie as tie
-use Rattle.framing.proofs.priced.Reads as reads
-use Rattle.framing.proofs.priced.Lts as lts
-use Rattle.framing.proofs.last_bytes.Reads as last-bytes-reads
 
-mul-row : tie.Need-mul-row
-mul-row c = search needs
+row-of-requires : tie.Need-row-of-requires
+row-of-requires c κs = omega arith
 
-array-copy-out-row : tie.Need-array-copy-out-row
-array-copy-out-row c = search needs
+fairly : (c : tie.After-row-of) → Fair (c .row-of .result)
+fairly c = subst Fair (sym (c .row-of .ensures)) (fair (c .before .args .framing) (omega arith))
 
 div-result : tie.Need-div-result
-div-result c = fair (c .before .before .args .framing) (omega arith) .some
+div-result c = fairly (c .before) .some
 
 mul-result : tie.Need-mul-result
 mul-result c =
-    let a = c .before .before .args in
-    omega (arith, div-le-self (a .payload) (rowOf (a .framing) .most))
-
-abbrev st : tie.After-struct-known2 → tie.Start
-st c = c .before .before .before
+    let r = c .before in
+    omega (arith, div-le-self (r .before .args .payload) (r .row-of .result .most))
 
 rem-last-bytes : tie.Need-rem-last-bytes
-rem-last-bytes c = fair (st c .args .framing) (omega arith) .some
+rem-last-bytes c = fairly (c .before .before) .some
 
 last-bytes-requires : tie.Need-last-bytes-requires
 last-bytes-requires c κs =
-    let a = st c .args in
-    let f = fair (a .framing) (omega arith) in
-    omega (arith, mod-lt (a .payload) (f .some), f .full)
+    let r = c .before .before in
+    let f = fairly r in
+    omega (arith, mod-lt (r .before .args .payload) (f .some), f .full)
 
 add-result : tie.Need-add-result
 add-result c =
-    let a = st (c .before) .args in
-    let f = fair (a .framing) (omega arith) in
-    let row = rowOf (a .framing) in
+    let r = c .before .before .before in
+    let f = fairly r in
+    let a = r .before .args in
+    let row = r .row-of .result in
     omega (
       arith,
       c .last-bytes .ensures,
@@ -52,9 +47,9 @@ add-result c =
 
 returns : tie.Need-returns
 unfolding price
-returns c = rw (c .last-bytes .ensures) refl
+returns c = rw (c .last-bytes .ensures, c .before .before .before .row-of .ensures) refl
 
 pub priced-spec : {M : Type 1} → statement M
 priced-spec =
     tie.close
-    (tie.spec mul-row array-copy-out-row div-result mul-result rem-last-bytes last-bytes-requires add-result returns)
+    (tie.spec row-of-requires div-result mul-result rem-last-bytes last-bytes-requires add-result returns)
