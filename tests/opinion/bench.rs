@@ -30,6 +30,13 @@ pub fn run(face: &dyn Face, seed: u64, repetitions: u64) {
     }
 }
 
+/// Writes the tables to a folder, each as WIRESxCHANNELS.
+pub fn write_tables(seed: u64, folder: &str) -> std::io::Result<()> {
+    SIZES.iter().try_for_each(|&(wires, channels)| {
+        std::fs::write(format!("{folder}/{wires}x{channels}"), table(seed, wires, channels))
+    })
+}
+
 /// An accepted table of that size with nothing to spare.
 fn table(seed: u64, wires: u64, channels: u64) -> Vec<u8> {
     let mut rng = Rng::new(seed);
@@ -55,13 +62,18 @@ fn medians(face: &dyn Face, table: &[u8], repetitions: u64) -> (f64, f64) {
 }
 
 fn time(face: &dyn Face, table: &[u8]) -> f64 {
-    let mut sheet = [0; 834];
     let start = Instant::now();
-    for _ in 0..BATCH {
+    judge(face, table, BATCH);
+    start.elapsed().as_nanos() as f64 / BATCH as f64
+}
+
+/// Judges an accepted table so many times.
+pub fn judge(face: &dyn Face, table: &[u8], times: u32) {
+    let mut sheet = [0; 834];
+    for _ in 0..times {
         let reply = black_box(face).judge(black_box(table), black_box(&mut sheet));
         assert_eq!(reply >> 56, 0, "an accepted table");
     }
-    start.elapsed().as_nanos() as f64 / BATCH as f64
 }
 
 fn median(mut times: Vec<f64>) -> f64 {

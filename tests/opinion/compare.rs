@@ -354,7 +354,7 @@ impl<'a> Comparison<'a> {
                 self.ask(&sheet, 0)?;
             }
         }
-        if ffi::null_is_empty() {
+        if self.face.null_is_empty() {
             Ok(())
         } else {
             Err("NULL with length 0 is not as an empty slice".to_string())

@@ -1,6 +1,6 @@
 //! The library's C face, `libmagsurinda.a`, and faces of the same kind: the baseline, and faces
-//! broken on purpose. With `--cfg archive` the runner links the library, with `--cfg piped` it asks
-//! the library in another process; without either only the baseline stands behind the same
+//! broken on purpose. With `--cfg archive` the runner links the library, with `--cfg piped` besides it
+//! asks those for other processors as well; without either only the baseline stands behind the same
 //! interface, to try the runner itself.
 
 use crate::baseline;
@@ -13,6 +13,10 @@ pub trait Face {
     fn ask_channel(&self, sheet: &[u8], channel: u64) -> u64;
     fn price(&self, framing: u64, payload: u64) -> u64;
     fn name(&self) -> &'static str;
+    /// Whether NULL with length 0 gets the replies of empty slices.
+    fn null_is_empty(&self) -> bool {
+        true
+    }
 }
 
 pub struct Baseline;
@@ -69,47 +73,33 @@ impl Face for Library {
     fn name(&self) -> &'static str {
         "libmagsurinda.a"
     }
+    fn null_is_empty(&self) -> bool {
+        use std::ptr::{null, null_mut};
+        let table = [0u8; 5];
+        // SAFETY: a length of 0 names no byte.
+        unsafe {
+            archive::magsurinda_judge(null(), 0, null_mut(), 0) == self.judge(&[], &mut [])
+                && archive::magsurinda_judge(table.as_ptr(), 5, null_mut(), 0) == self.judge(&table, &mut [])
+                && archive::magsurinda_ask_wire(null(), 0, 0) == self.ask_wire(&[], 0)
+                && archive::magsurinda_ask_channel(null(), 0, 0) == self.ask_channel(&[], 0)
+        }
+    }
 }
 
 /// The face that the runner was built for.
-#[cfg(archive)]
+#[cfg(all(archive, not(piped)))]
 pub fn built_for() -> Box<dyn Face> {
     Box::new(Library)
 }
 
-#[cfg(piped)]
+#[cfg(all(archive, piped))]
 pub fn built_for() -> Box<dyn Face> {
-    Box::new(crate::piped::Library::start())
+    Box::new(crate::piped::Together::start())
 }
 
-#[cfg(not(any(archive, piped)))]
+#[cfg(not(archive))]
 pub fn built_for() -> Box<dyn Face> {
     Box::new(Baseline)
-}
-
-/// Whether NULL with length 0 gets the replies of empty slices.
-#[cfg(archive)]
-pub fn null_is_empty() -> bool {
-    use std::ptr::{null, null_mut};
-    let face = Library;
-    let table = [0u8; 5];
-    // SAFETY: a length of 0 names no byte.
-    unsafe {
-        archive::magsurinda_judge(null(), 0, null_mut(), 0) == face.judge(&[], &mut [])
-            && archive::magsurinda_judge(table.as_ptr(), 5, null_mut(), 0) == face.judge(&table, &mut [])
-            && archive::magsurinda_ask_wire(null(), 0, 0) == face.ask_wire(&[], 0)
-            && archive::magsurinda_ask_channel(null(), 0, 0) == face.ask_channel(&[], 0)
-    }
-}
-
-#[cfg(piped)]
-pub fn null_is_empty() -> bool {
-    crate::piped::Library::start().null_is_empty()
-}
-
-#[cfg(not(any(archive, piped)))]
-pub fn null_is_empty() -> bool {
-    true
 }
 
 // ---- the reply in 64 bits ----

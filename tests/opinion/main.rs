@@ -33,6 +33,8 @@ opinion machine [--seed S] [--tables N]
                          leaves wrong figures standing, and does not count as passed
 opinion bench [--seed S] [--repetitions N]
                          times of the face and of the baseline, and their ratio at three sizes
+opinion sizes FOLDER     writes the tables of these three sizes
+opinion judged TIMES FILE  has the baseline judge a table so many times
 opinion scripted         eight small runs of the slot machine, slot by slot
 opinion faults           the faults that --break knows, one to a line
 Exit status: 0 agreed; 1 a disagreement or a figure exceeded, printed; 2 bad usage; 4 too few of a
@@ -49,6 +51,8 @@ fn main() {
         ["compare", ref rest @ ..] => run_compare(rest),
         ["machine", ref rest @ ..] => run_machine(rest),
         ["bench", ref rest @ ..] => run_bench(rest),
+        ["sizes", folder] => bench::write_tables(SEED, folder).unwrap_or_else(|why| unreadable(folder, why)),
+        ["judged", times, file] => run_judged(times, file),
         ["scripted"] => print!("{}", scripted::text()),
         ["faults"] => broken::FAULTS.iter().enumerate().for_each(|(at, what)| println!("{} {what}", at + 1)),
         _ => usage(),
@@ -98,12 +102,14 @@ impl Options<'_> {
     }
 }
 
+fn unreadable(file: &str, why: std::io::Error) -> ! {
+    eprintln!("opinion: {file}: {why}");
+    exit(2)
+}
+
 fn run_vectors(file: &str, tables: &str) {
     let face = ffi::built_for();
-    let text = std::fs::read_to_string(file).unwrap_or_else(|why| {
-        eprintln!("opinion: {file}: {why}");
-        exit(2)
-    });
+    let text = std::fs::read_to_string(file).unwrap_or_else(|why| unreadable(file, why));
     let told = |why: String| -> ! { fail(1, &format!("vectors: {why}")) };
     vectors::document_prices(face.as_ref()).unwrap_or_else(|why| told(why));
     vectors::short_cases(face.as_ref()).unwrap_or_else(|why| told(why));
@@ -170,4 +176,9 @@ fn run_bench(words: &[&str]) {
     let options = Options(words);
     options.only(&["--seed", "--repetitions"], &[]);
     bench::run(ffi::built_for().as_ref(), options.seed(), options.number("--repetitions").unwrap_or(501));
+}
+
+fn run_judged(times: &str, file: &str) {
+    let table = std::fs::read(file).unwrap_or_else(|why| unreadable(file, why));
+    bench::judge(&ffi::Baseline, &table, times.parse().unwrap_or_else(|_| usage()));
 }

@@ -1,83 +1,94 @@
-//! The library where it cannot be linked: another process, `serve.c`, that answers question by question.
+//! The library that is linked together with those for other processors, each of which answers in a process of its own
+//! (`serve.c`): all are asked the same, and have to answer the same.
 
-use crate::ffi::Face;
+use crate::ffi::{Face, Library};
+use crate::hex;
 use std::cell::RefCell;
-use std::io::{BufReader, BufWriter, Read, Write};
-use std::process::{Child, ChildStdin, ChildStdout, Command, Stdio};
+use std::io::{BufReader, Read, Write};
+use std::process::{ChildStdin, ChildStdout, Command, Stdio};
 
-pub struct Library(RefCell<Served>);
+pub struct Together(Vec<Served>);
 
+/// The library for one processor, at the other end of two pipes.
 struct Served {
-    _process: Child,
-    questions: BufWriter<ChildStdin>,
-    replies: BufReader<ChildStdout>,
+    target: &'static str,
+    questions: RefCell<ChildStdin>,
+    replies: RefCell<BufReader<ChildStdout>>,
 }
 
-impl Library {
-    pub fn start() -> Library {
+impl Served {
+    fn start(target: &'static str) -> Served {
         let mut process = Command::new("tools/run")
-            .arg("target/opinion/serve")
+            .args([target, &format!("target/opinion/serve-{target}")])
             .stdin(Stdio::piped())
             .stdout(Stdio::piped())
             .spawn()
             .expect("tools/run starts");
-        let questions = BufWriter::new(process.stdin.take().expect("its standard input"));
-        let replies = BufReader::new(process.stdout.take().expect("its standard output"));
-        Library(RefCell::new(Served { _process: process, questions, replies }))
+        let questions = RefCell::new(process.stdin.take().expect("its standard input"));
+        let replies = RefCell::new(BufReader::new(process.stdout.take().expect("its standard output")));
+        Served { target, questions, replies }
     }
 
-    /// Asks with numbers and then blocks of bytes; the reply, after which the blocks come back.
-    fn ask(&self, kind: u8, numbers: &[u64], blocks: &[&[u8]]) -> u64 {
-        let mut served = self.0.borrow_mut();
-        let out = &mut served.questions;
-        out.write_all(&[kind]).expect("a question taken");
-        numbers.iter().for_each(|number| out.write_all(&number.to_le_bytes()).expect("a question taken"));
-        blocks.iter().for_each(|block| out.write_all(block).expect("a question taken"));
-        out.flush().expect("a question taken");
-        let mut reply = [0; 8];
-        served.replies.read_exact(&mut reply).expect("a reply");
-        u64::from_le_bytes(reply)
+    fn ask(&self, question: &[u8]) {
+        self.questions.borrow_mut().write_all(question).expect("a question taken");
     }
 
-    fn take_back(&self, block: &mut [u8]) {
-        self.0.borrow_mut().replies.read_exact(block).expect("a block back");
-    }
-
-    /// A block that was lent to be read only comes back as it was.
-    fn take_back_same(&self, block: &[u8]) {
-        let mut back = vec![0; block.len()];
-        self.take_back(&mut back);
-        assert!(back == block, "a block that is only read was written");
-    }
-
-    fn ask_sheet(&self, kind: u8, sheet: &[u8], number: u64) -> u64 {
-        let reply = self.ask(kind, &[sheet.len() as u64, number], &[sheet]);
-        self.take_back_same(sheet);
-        reply
-    }
-
-    pub fn null_is_empty(&self) -> bool {
-        self.ask(b'N', &[], &[]) == 1
+    fn take(&self, length: usize) -> Vec<u8> {
+        let mut bytes = vec![0; length];
+        self.replies.borrow_mut().read_exact(&mut bytes).expect("a reply");
+        bytes
     }
 }
 
-impl Face for Library {
-    fn judge(&self, table: &[u8], sheet: &mut [u8]) -> u64 {
-        let reply = self.ask(b'J', &[table.len() as u64, sheet.len() as u64], &[table, sheet]);
-        self.take_back_same(table);
-        self.take_back(sheet);
+impl Together {
+    /// The processors are those that the runner was built for.
+    pub fn start() -> Together {
+        Together(env!("OTHERS").split_whitespace().map(Served::start).collect())
+    }
+
+    /// Asks the others, with numbers and then blocks of bytes.
+    fn ask(&self, kind: u8, numbers: [u64; 2], blocks: &[&[u8]]) {
+        let question = [&[kind][..], numbers.map(u64::to_le_bytes).as_flattened(), &blocks.concat()].concat();
+        self.0.iter().for_each(|other| other.ask(&question));
+    }
+
+    /// Holds the others to the reply of the library that is linked, and to the blocks as it has left them.
+    fn hold(&self, reply: u64, blocks: &[&[u8]]) -> u64 {
+        for other in &self.0 {
+            let same =
+                other.take(8) == reply.to_le_bytes() && blocks.iter().all(|block| other.take(block.len()) == **block);
+            if !same {
+                let blocks: Vec<String> = blocks.iter().map(|block| hex::show(block)).collect();
+                let here = format!("the reply here is {reply:#x}, with {}", blocks.join(" and "));
+                crate::fail(1, &format!("DISAGREEMENT: {} answers otherwise: {here}", other.target));
+            }
+        }
         reply
     }
+}
+
+impl Face for Together {
+    fn judge(&self, table: &[u8], sheet: &mut [u8]) -> u64 {
+        self.ask(b'J', [table.len() as u64, sheet.len() as u64], &[table, sheet]);
+        self.hold(Library.judge(table, sheet), &[table, sheet])
+    }
     fn ask_wire(&self, sheet: &[u8], wire: u64) -> u64 {
-        self.ask_sheet(b'W', sheet, wire)
+        self.ask(b'W', [sheet.len() as u64, wire], &[sheet]);
+        self.hold(Library.ask_wire(sheet, wire), &[sheet])
     }
     fn ask_channel(&self, sheet: &[u8], channel: u64) -> u64 {
-        self.ask_sheet(b'C', sheet, channel)
+        self.ask(b'C', [sheet.len() as u64, channel], &[sheet]);
+        self.hold(Library.ask_channel(sheet, channel), &[sheet])
     }
     fn price(&self, framing: u64, payload: u64) -> u64 {
-        self.ask(b'P', &[framing, payload], &[])
+        self.ask(b'P', [framing, payload], &[]);
+        self.hold(Library.price(framing, payload), &[])
     }
     fn name(&self) -> &'static str {
-        "libmagsurinda.a, as a process"
+        concat!("libmagsurinda.a, here and for ", env!("OTHERS"))
+    }
+    fn null_is_empty(&self) -> bool {
+        self.ask(b'N', [0, 0], &[]);
+        self.hold(Library.null_is_empty() as u64, &[]) == 1
     }
 }

@@ -1,9 +1,15 @@
-/* The library as a process, for a runner that it cannot be linked into: questions on standard input, replies on standard
-   output, numbers in this machine's order. Table and sheet lie between bytes that must stay as they are. */
+/* The library as a process, for a runner on another processor: questions on standard input, replies on standard output, numbers
+   with the low byte first. Table and sheet lie between bytes that must stay as they are. */
 #include "magsurinda.h"
+#include <stddef.h>
 #include <stdio.h>
 #include <stdlib.h>
 #include <string.h>
+
+/* A kind of question that is answered wrong on purpose, or S for a sheet: the runner has to find it out. */
+#ifndef WRONG
+#define WRONG 0
+#endif
 
 enum { GUARD = 64, MOST = 1 << 20 };
 
@@ -32,6 +38,12 @@ static void give(const void *from, size_t length)
     need(fwrite(from, 1, length, stdout) == length, "a reply not taken");
 }
 
+static void reply(int kind, uint64_t value)
+{
+    value ^= kind == WRONG;
+    give(&value, sizeof value);
+}
+
 /* A block of `length` bytes from the question, in a room of its own. */
 static uint8_t *block(size_t length)
 {
@@ -43,38 +55,33 @@ static uint8_t *block(size_t length)
     return room + GUARD;
 }
 
-static void leave(uint8_t *bytes, size_t length)
+static void give_back(uint8_t *bytes, size_t length)
 {
     for (size_t i = 0; i < GUARD; i++)
         need(bytes[length + i] == 0xa5 && bytes[(ptrdiff_t)i - GUARD] == 0xa5, "a byte beside a block was written");
+    give(bytes, length);
     free(bytes - GUARD);
 }
 
-static void judge(void)
+static void judge(size_t table_length, size_t sheet_length)
 {
-    size_t table_length = number(), sheet_length = number();
     uint8_t *table = block(table_length), *sheet = block(sheet_length);
-    uint64_t reply = magsurinda_judge(table, table_length, sheet, sheet_length);
-    give(&reply, sizeof reply);
-    give(table, table_length);
-    give(sheet, sheet_length);
-    leave(table, table_length);
-    leave(sheet, sheet_length);
+    reply('J', magsurinda_judge(table, table_length, sheet, sheet_length));
+    if (WRONG == 'S' && sheet_length > 0)
+        sheet[sheet_length - 1] ^= 1;
+    give_back(table, table_length);
+    give_back(sheet, sheet_length);
 }
 
-static void ask(uint64_t (*face)(const uint8_t *, size_t, uint64_t))
+static void ask(int kind, size_t length, uint64_t which)
 {
-    size_t length = number();
-    uint64_t which = number();
     uint8_t *sheet = block(length);
-    uint64_t reply = face(sheet, length, which);
-    give(&reply, sizeof reply);
-    give(sheet, length);
-    leave(sheet, length);
+    reply(kind, (kind == 'W' ? magsurinda_ask_wire : magsurinda_ask_channel)(sheet, length, which));
+    give_back(sheet, length);
 }
 
 /* Whether NULL with length 0 gets the replies of empty blocks. */
-static uint64_t null_is_empty(void)
+static int null_is_empty(void)
 {
     uint8_t table[5] = { 0 }, none[1] = { 0 };
     return magsurinda_judge(NULL, 0, NULL, 0) == magsurinda_judge(none, 0, none + 1, 0)
@@ -83,26 +90,20 @@ static uint64_t null_is_empty(void)
         && magsurinda_ask_channel(NULL, 0, 0) == magsurinda_ask_channel(none, 0, 0);
 }
 
-static uint64_t plain(int kind)
-{
-    if (kind == 'N')
-        return null_is_empty();
-    need(kind == 'P', "no such question");
-    uint64_t framing = number(), payload = number();
-    return magsurinda_price(framing, payload);
-}
-
 int main(void)
 {
     for (int kind; (kind = getchar()) != EOF; fflush(stdout)) {
-        if (kind == 'J') {
-            judge();
-        } else if (kind == 'W' || kind == 'C') {
-            ask(kind == 'W' ? magsurinda_ask_wire : magsurinda_ask_channel);
-        } else {
-            uint64_t reply = plain(kind);
-            give(&reply, sizeof reply);
-        }
+        uint64_t first = number(), second = number();
+        if (kind == 'J')
+            judge(first, second);
+        else if (kind == 'W' || kind == 'C')
+            ask(kind, first, second);
+        else if (kind == 'P')
+            reply(kind, magsurinda_price(first, second));
+        else if (kind == 'N')
+            reply(kind, null_is_empty());
+        else
+            need(0, "no such question");
     }
     return 0;
 }
