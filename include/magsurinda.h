@@ -1,5 +1,5 @@
-/* Magsurinda for C: judging a table, asking a sheet, asking a price. Link libmagsurinda.a (`rt staticlib magsurinda`): it is
-   for x86-64 Linux and the System V calling convention. README.md says what works on another processor.
+/* Magsurinda for C: judging a table, asking a sheet, asking a price. Link libmagsurinda.a (`./library`): it is for Linux on one
+   processor, x86-64, aarch64 or riscv64, with the calling convention that C has there.
 
    Every function takes any bytes and numbers and always replies. What the caller ensures, without which a call is undefined:
    - each pointer is good for the length given with it; NULL is allowed where that length is 0, and only there;
