@@ -4,14 +4,14 @@ use mathlib.Core.Logic.{_≢_, _⊎_, inl, inr}
 use mathlib.Core.Bool.{Bool, true}
 use mathlib.Core.List.{List, _++_}
 use Prim.Native.Nat.{ℕ, zero, suc, _+_, _-_, _*_, _/_, _%_, _^_, _≤_, _<_}
-use native.Mathlib.Nat.{zero-lt-suc, le-dest, add-zero, add-suc, pow-suc, zero-div, mod-lt}
-use native.Mathlib.Nat.{mod-eq-of-lt, mul-le-mul-right, mul-add-div-right, mul-add-mod-self-right}
+use native.Mathlib.Nat.{zero-lt-suc, le-dest, add-zero, add-suc, pow-suc, zero-div, mod-lt, div-one, div-eq-of-lt}
+use native.Mathlib.Nat.{mod-eq-of-lt, mul-le-mul-right, mul-add-div-right, mod-le, le-trans, div-mul-le-self, mul-add-mod-self-right}
 use native.Mathlib.Decide.{ℕ-discrete, decLt}
 use native.Mathlib.Omega.{arith}
 use lib.ListN.{length, getD, set, take, replicate, length-set, List·getD-eq-default, List·getD-append}
-use lib.Seq.{getD-set-same, getD-set-other, set-out, getD-take, getD-append-add, ext-getD}
+use lib.Seq.{getD-set-same, getD-set-other, set-out, set-getD, getD-take, getD-append-add, ext-getD}
 use lib.Arith.{digits-lt, digits-mod}
-use lib.Pow.{pow-pos, pow-add, shr-lt, shr-shr, split, high, mod-pow-add}
+use lib.Pow.{pow-pos, pow-add, shr-lt, shr-shr, split, high, low, mod-pow-add, mod-mod-pow, field as Pow·field}
 use borrow.Author.Tests.{le-leb, leb-true, lt-ltb}
 use Rattle.bits.specs.Field.{bit, field, within, byteWith, putBit, putField, Bytes}
 use Rattle.bits.specs.Field.{widest, served, takenOf, numberOf, fieldFits, wroteField}
@@ -65,13 +65,6 @@ module _ (x k b : ℕ) (two : b < 2) where
         (sym (shr-shr (byteWith x k b) (suc k) d) ∙ ap (λ (y : ℕ). y / 2 ^ d) byte-high ∙ shr-shr x (suc k) d))
   ]
 
-  -- the old digit is taken away and the new one put there
-  pub byte-moved : byteWith x k b ≡ x - x / 2 ^ k % 2 * 2 ^ k + b * 2 ^ k
-  byte-moved =
-      let q : x / 2 ^ suc k ≡ x / 2 ^ k / 2 = sym (ap (λ (m : ℕ). x / 2 ^ m) (omega arith)) ∙ sym (shr-shr x k 1) in
-      let e : x / 2 ^ k ≡ x / 2 ^ suc k * 2 + x / 2 ^ k % 2 = omega arith in
-      omega (arith, byte-low, split x k, ap (λ (y : ℕ). y * 2 ^ k) e)
-
   -- a byte stays a byte
   pub byte-lt : k < 8 → x < 256 → byteWith x k b < 256
   byte-lt l h =
@@ -92,26 +85,9 @@ digits-eq x y (suc k) h =
 
 -- ---- bits
 
-byte-from : (at k : ℕ) → (at + k) / 8 ≡ at / 8 + (at % 8 + k) / 8
-byte-from at k = omega arith
-
-place-from : (at k : ℕ) → (at + k) % 8 ≡ (at % 8 + k) % 8
-place-from at k = omega arith
-
 pub bit-lt : (s : List ℕ) (i : ℕ) → bit s i < 2
 unfolding bit
 bit-lt s i = mod-lt _ (zero-lt-suc 1)
-
--- bit at + k by its byte and its place there, where no sum is of at and k
-pub bit-from : (s : List ℕ) (at k : ℕ) → bit s (at + k) ≡ getD s (at / 8 + (at % 8 + k) / 8) 0 / 2 ^ (7 - (at % 8 + k) % 8) % 2
-unfolding bit
-bit-from s at k = rw (byte-from at k, place-from at k)
-
-pub putBit-from : (s : List ℕ) (at k b : ℕ)
-    → putBit s (at + k) b
-    ≡ set s (at / 8 + (at % 8 + k) / 8) (byteWith (getD s (at / 8 + (at % 8 + k) / 8) 0) (7 - (at % 8 + k) % 8) b)
-unfolding putBit
-putBit-from s at k b = rw (byte-from at k, place-from at k)
 
 pub length-putBit : (s : List ℕ) (i b : ℕ) → length (putBit s i b) ≡ length s
 unfolding putBit
@@ -285,6 +261,180 @@ unfolding putField
 bytes-putField s at zero v h = h
 bytes-putField s at (suc w) v h =
     bytes-putBit (putField s at w (v / 2)) (at + w) (v % 2) (omega arith) (bytes-putField s at w (v / 2) h)
+
+-- ---- by the byte
+
+-- the highest w bits of a byte
+byte-high-bits : (s : List ℕ) (n w d : ℕ) → getD s n 0 < 256 → w + d ≡ 8 → field s (8 * n) w ≡ getD s n 0 / 2 ^ d
+unfolding field bit
+byte-high-bits s n zero d l e =
+    let top : 8 ≡ d = omega arith in
+    sym (div-eq-of-lt (subst (λ (m : ℕ). getD s n 0 < 2 ^ m) top l))
+byte-high-bits s n (suc w) d l e =
+    let q : (8 * n + w) / 8 ≡ n = omega arith in
+    let r : 7 - (8 * n + w) % 8 ≡ d = omega arith in
+    let h : getD s n 0 / 2 ^ suc d ≡ getD s n 0 / 2 ^ d / 2
+    = ap (λ (m : ℕ). getD s n 0 / 2 ^ m) (omega arith) ∙ sym (shr-shr (getD s n 0) d 1) in
+    rw (q, r, byte-high-bits s n w (suc d) l (omega arith), h) (omega arith)
+
+pub field-byte : (s : List ℕ) (n : ℕ) → getD s n 0 < 256 → field s (8 * n) 8 ≡ getD s n 0
+field-byte s n l = byte-high-bits s n 8 0 l refl ∙ div-one (getD s n 0)
+
+-- a field of bytes, and one byte more
+pub field-more : (s : List ℕ) (n k : ℕ) → getD s (n + k) 0 < 256
+    → field s (8 * n) (8 * (k + 1)) ≡ 256 * field s (8 * n) (8 * k) + getD s (n + k) 0
+field-more s n k l =
+    let e : 8 * (k + 1) ≡ 8 * k + 8 = omega arith in
+    let f : 8 * n + 8 * k ≡ 8 * (n + k) = omega arith in
+    rw (e, field-split s (8 * n) (8 * k) 8, f, field-byte s (n + k) l) (omega arith)
+
+-- the digits above the last t, and of those the last w
+cut : (s : List ℕ) (a r w t : ℕ) → field s a (r + w + t) / 2 ^ t % 2 ^ w ≡ field s (a + r) w
+cut s a r w t =
+    rw (field-split s a (r + w) t, high (field s a (r + w)) t (field-lt s (a + (r + w)) t), field-split s a r w)
+    (low (field s a r) w (field-lt s (a + r) w))
+
+-- the first a bits take the high digits
+pub putField-split : (s : List ℕ) (at a b v : ℕ)
+    → putField s at (a + b) v ≡ putField (putField s at a (v / 2 ^ b)) (at + a) b (v % 2 ^ b)
+unfolding putField
+putField-split s at a zero v = ap₂ (λ (m n : ℕ). putField s at m n) (add-zero a) (sym (div-one v))
+putField-split s at a (suc b) v =
+    let z : b + 1 ≡ suc b = omega arith in
+    let up : v / 2 / 2 ^ b ≡ v / 2 ^ suc b = shr-shr v 1 b ∙ ap (λ (m : ℕ). v / 2 ^ m) (omega arith) in
+    let mid : v / 2 % 2 ^ b ≡ v % 2 ^ suc b / 2
+    = subst (λ (m : ℕ). v / 2 % 2 ^ b ≡ v % 2 ^ m / 2) z (sym (Pow·field v b 1)) in
+    let end : v % 2 ≡ v % 2 ^ suc b % 2 = subst (λ (m : ℕ). v % 2 ≡ v % 2 ^ m % 2) z (sym (mod-mod-pow v b 1)) in
+    let e : at + (a + b) ≡ at + a + b = omega arith in
+    ap (λ (m : ℕ). putField s at m v) (add-suc a b)
+    ∙ ap₂ (λ (p : List ℕ) (i : ℕ). putBit p i (v % 2)) (putField-split s at a b (v / 2)) e
+    ∙ rw (up, mid, end)
+
+-- a byte whose digit is put to what it is
+byte-same : (x k : ℕ) → byteWith x k (x / 2 ^ k % 2) ≡ x
+byte-same x k =
+    let q : x / 2 ^ suc k ≡ x / 2 ^ k / 2 = sym (ap (λ (m : ℕ). x / 2 ^ m) (omega arith)) ∙ sym (shr-shr x k 1) in
+    let e : x / 2 ^ k ≡ x / 2 ^ suc k * 2 + x / 2 ^ k % 2 = omega arith in
+    omega (arith, byte-low x k (x / 2 ^ k % 2) (mod-lt _ (zero-lt-suc 1)), split x k, ap (λ (y : ℕ). y * 2 ^ k) e)
+
+-- what a field holds may be written to it
+pub putField-same : (s : List ℕ) (at w : ℕ) → putField s at w (field s at w) ≡ s
+unfolding field bit putField putBit
+putField-same s at zero = refl
+putField-same s at (suc w) =
+    let b : ℕ = bit s (at + w) in
+    let h : (2 * field s at w + b) / 2 ≡ field s at w = omega (arith, bit-lt s (at + w)) in
+    let l : (2 * field s at w + b) % 2 ≡ b = omega (arith, bit-lt s (at + w)) in
+    ap₂ (λ (n d : ℕ). putBit (putField s at w n) (at + w) d) h l
+    ∙ ap (λ (p : List ℕ). putBit p (at + w) b) (putField-same s at w)
+    ∙ ap (λ (x : ℕ). set s ((at + w) / 8) x) (byte-same (getD s ((at + w) / 8) 0) (7 - (at + w) % 8))
+    ∙ set-getD s ((at + w) / 8) 0
+
+put-byte : (s : List ℕ) → Bytes s → (n v : ℕ) → n < length s → v < 256 → putField s (8 * n) 8 v ≡ set s n v
+put-byte s bytes n v l small =
+    let p : List ℕ = putField s (8 * n) 8 v in
+    let bp : Bytes p = bytes-putField s (8 * n) 8 v bytes in
+    ext-getD 0 p (set s n v) (length-putField s (8 * n) 8 v ∙ sym (length-set s n v)) (λ m h.
+    elim (ℕ-discrete m n) [
+      | yes e ↦
+          rw e
+          (sym (field-byte p n (bp n)) ∙ field-putField s (8 * n) 8 v (omega arith) small ∙ sym (getD-set-same s n v 0 l))
+      | no o ↦
+          sym (field-byte p m (bp m))
+          ∙ field-putField-other s (8 * n) 8 v (8 * m) 8
+          (elim (decLt m n) [ yes b ↦ inl (omega arith) | no b ↦ inr (omega (arith, o)) ])
+          ∙ field-byte s m (bytes m)
+          ∙ sym (getD-set-other s n m v 0 o)
+    ])
+
+-- a field of bytes that is written, and one byte more
+pub put-more : (s : List ℕ) → Bytes s → (n k v : ℕ) → n + k < length s
+    → set (putField s (8 * n) (8 * k) (v / 256)) (n + k) (v % 256) ≡ putField s (8 * n) (8 * (k + 1)) v
+put-more s bytes n k v l =
+    let p : List ℕ = putField s (8 * n) (8 * k) (v / 256) in
+    let same : length p ≡ length s = length-putField s (8 * n) (8 * k) (v / 256) in
+    let e : 8 * k + 8 ≡ 8 * (k + 1) = omega arith in
+    let f : 8 * (n + k) ≡ 8 * n + 8 * k = omega arith in
+    sym (put-byte p (bytes-putField s (8 * n) (8 * k) (v / 256) bytes) (n + k) (v % 256) (omega arith) (omega arith))
+    ∙ ap (λ (i : ℕ). putField p i 8 (v % 256)) f
+    ∙ sym (putField-split s (8 * n) (8 * k) 8 v)
+    ∙ ap (λ (m : ℕ). putField s (8 * n) m v) e
+
+module _ (s : List ℕ) (a r w t v : ℕ) where
+  abbrev all : ℕ
+  all = field s a (r + w + t)
+
+  abbrev last : ℕ
+  last = field s (a + (r + w)) t
+
+  -- its old digits taken away, and the new ones added
+  changed : all - all / 2 ^ t % 2 ^ w * 2 ^ t + v * 2 ^ t ≡ (field s a r * 2 ^ w + v) * 2 ^ t + last
+  changed =
+      omega (
+        arith,
+        field-split s a (r + w) t,
+        ap (λ (x : ℕ). x * 2 ^ t) (field-split s a r w),
+        ap (λ (x : ℕ). x * 2 ^ t) (cut s a r w t),
+      )
+
+  put-whole : v < 2 ^ w
+      → putField s a (r + w + t) (all - all / 2 ^ t % 2 ^ w * 2 ^ t + v * 2 ^ t) ≡ putField s (a + r) w v
+  put-whole l =
+      let inner : List ℕ = putField s (a + r) w v in
+      let kept : field inner (a + (r + w)) t ≡ last
+      = field-putField-other s (a + r) w v (a + (r + w)) t (inr (omega arith)) in
+      ap (λ (x : ℕ). putField s a (r + w + t) x) changed
+      ∙ putField-split s a (r + w) t _
+      ∙ ap₂ (λ (x y : ℕ). putField (putField s a (r + w) x) (a + (r + w)) t y)
+      (high (field s a r * 2 ^ w + v) t (field-lt s (a + (r + w)) t)) (low (field s a r * 2 ^ w + v) t (field-lt s (a + (r + w)) t))
+      ∙ ap (λ (p : List ℕ). putField p (a + (r + w)) t last) (
+      putField-split s a r w _
+      ∙ ap₂ (λ (x y : ℕ). putField (putField s a r x) (a + r) w y) (high (field s a r) w l) (low (field s a r) w l)
+      ∙ ap (λ (p : List ℕ). putField p (a + r) w v) (putField-same s a r)
+      )
+      ∙ ap (λ (x : ℕ). putField inner (a + (r + w)) t x) (sym kept)
+      ∙ putField-same inner (a + (r + w)) t
+
+-- a field of w bits inside of one of c bits, with t bits behind it
+module _ (s : List ℕ) (a c at w t : ℕ) (starts : a ≤ at) (ends : at + w + t ≡ a + c) where
+  abbrev whole : ℕ
+  whole = field s a c
+
+  parts : at - a + w + t ≡ c
+  parts = omega arith
+
+  here : a + (at - a) ≡ at
+  here = omega arith
+
+  pub field-cut : whole / 2 ^ t % 2 ^ w ≡ field s at w
+  field-cut =
+      ap (λ (m : ℕ). field s a m / 2 ^ t % 2 ^ w) (sym parts)
+      ∙ cut s a (at - a) w t
+      ∙ ap (λ (i : ℕ). field s i w) here
+
+  -- what `part` gives of the number that was read
+  pub part-at : {n p : ℕ} → p ≡ n / 2 ^ t % 2 ^ w → n ≡ whole → p ≡ field s at w
+  part-at e r = e ∙ ap (λ (n : ℕ). n / 2 ^ t % 2 ^ w) r ∙ field-cut
+
+  pub old-le : whole / 2 ^ t % 2 ^ w * 2 ^ t ≤ whole
+  old-le = le-trans (mul-le-mul-right (2 ^ t) (mod-le (whole / 2 ^ t) (2 ^ w))) (div-mul-le-self whole (2 ^ t))
+
+  -- its old digits are taken away, and those of v are added
+  module _ (v : ℕ) (small : v < 2 ^ w) where
+    abbrev new : ℕ → ℕ
+    new n = n - n / 2 ^ t % 2 ^ w * 2 ^ t + v * 2 ^ t
+
+    pub new-lt : new whole < 2 ^ c
+    new-lt =
+        subst (λ (m : ℕ). new (field s a m) < 2 ^ m) parts
+        (rw (changed s a (at - a) w t v, pow-add 2 (at - a + w) t, pow-add 2 (at - a) w)
+        (digits-lt (digits-lt (field-lt s a (at - a)) small) (field-lt s (a + (at - a + w)) t)))
+
+    pub put-cut : putField s a c (new whole) ≡ putField s at w v
+    put-cut =
+        subst (λ (m : ℕ). putField s a m (new (field s a m)) ≡ putField s (a + (at - a)) w v) parts
+        (put-whole s a (at - a) w t v small)
+        ∙ ap (λ (i : ℕ). putField s i w v) here
 
 -- ---- the replies
 

@@ -14,6 +14,9 @@ use Rattle.bits.proofs.write.Reads as write-reads
 use Rattle.bits.proofs.wide.Kinds as wide-kinds
 use Rattle.bits.proofs.wide.Reads as wide-reads
 use Rattle.bits.proofs.wide as wide
+use Rattle.bits.proofs.part.Kinds as part-kinds
+use Rattle.bits.proofs.part.Reads as part-reads
+use Rattle.bits.proofs.part as part
 use Rattle.bits.proofs.fill.Kinds as fill-kinds
 use Rattle.bits.proofs.fill.Reads as fill-reads
 use Rattle.bits.proofs.fill as fill
@@ -29,6 +32,11 @@ module _ (κs : Lfts 0) where
       (e e' : AtExit (endedOf 0 wide-kinds.ps wide-kinds.r) κs)
       → wide-reads.Post κs a r e → wide-reads.Post κs a r' e' → r ≡ r'
   wide-one a r r' e e' p q = p ∙ sym q
+
+  pub part-one : (a : ArgsD part.signature κs) (r r' : ResD part.signature κs)
+      (e e' : AtExit (endedOf 0 part-kinds.ps part-kinds.r) κs)
+      → part-reads.Post κs a r e → part-reads.Post κs a r' e' → r ≡ r'
+  part-one a r r' e e' p q = p ∙ sym q
 
 module _ (κs : Lfts 1) where
   pub fill-one : (a : ArgsD fill.signature κs) (r r' : ResD fill.signature κs)

@@ -39,7 +39,7 @@ Bytes s = (i : ℕ) → getD s i 0 < 256
 
 -- the widest field that is served
 abbrev pub widest : ℕ
-widest = 29
+widest = 57
 
 -- a field that is served, of bits that are all there
 abbrev pub served : List ℕ → ℕ → ℕ → Bool

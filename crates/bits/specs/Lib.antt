@@ -1,1 +1,2 @@
 pub mod Field
+pub mod Around

@@ -15,6 +15,7 @@ const PLAIN: Row = Row {
     overhead: 50,
     least: 38,
 };
+
 const UDP: Row = Row {
     most: 1464,
     overhead: 78,

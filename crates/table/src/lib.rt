@@ -14,6 +14,9 @@ use rules::Reading;
 use rules::Table;
 use rules::TableRead;
 
+// Of a record's fixed bits, those up to its deadline.
+const SENT_BITS: usize = Table::FRAMING_BITS + Table::PAYLOAD_BITS + Table::PERIOD_BITS;
+
 struct Head {
     answer: Reading,
     hyper: u64,
@@ -117,18 +120,19 @@ fn wires_of(s: &[u8], n: usize) -> Wires
             break;
         }
         // No code has the rate 0.
-        let bytes = framing::rate(bits::number(s, at, Table::RATE_BITS));
+        let wire = bits::number(s, at, Table::WIRE_BITS);
+        let bytes = framing::rate(bits::part(
+            wire,
+            Table::PROP_BITS + Table::ROOM_BITS,
+            Table::RATE_BITS,
+        ));
         if bytes == 0 {
             found = Reading::Refused(5, w as u64);
             break;
         }
         rate[w] = bytes;
-        prop[w] = bits::number(s, at + Table::RATE_BITS, Table::PROP_BITS);
-        room[w] = bits::number(
-            s,
-            at + Table::RATE_BITS + Table::PROP_BITS,
-            Table::ROOM_BITS,
-        );
+        prop[w] = bits::part(wire, Table::ROOM_BITS, Table::PROP_BITS);
+        room[w] = bits::part(wire, 0, Table::ROOM_BITS);
     }
     Wires {
         answer: found,
@@ -161,12 +165,11 @@ fn fixed_of(s: &[u8], hyper: u64, c: usize, at: usize) -> Fixed
     if !bits::holds(s, at, Table::FIXED_BITS) {
         return no_fixed(1, 0);
     }
-    let payload_at = at + Table::FRAMING_BITS;
-    let period_at = payload_at + Table::PAYLOAD_BITS;
-    let deadline_at = period_at + Table::PERIOD_BITS;
-    let payload = bits::number(s, payload_at, Table::PAYLOAD_BITS);
-    let period = bits::number(s, period_at, Table::PERIOD_BITS);
-    let hops = bits::number(s, deadline_at + Table::DEADLINE_BITS, Table::HOPS_BITS) as usize;
+    let sent = bits::number(s, at, SENT_BITS);
+    let due = bits::number(s, at + SENT_BITS, Table::DEADLINE_BITS + Table::HOPS_BITS);
+    let payload = bits::part(sent, Table::PERIOD_BITS, Table::PAYLOAD_BITS);
+    let period = bits::part(sent, 0, Table::PERIOD_BITS);
+    let hops = bits::part(due, 0, Table::HOPS_BITS) as usize;
     if payload == 0 {
         return no_fixed(6, place);
     }
@@ -187,9 +190,16 @@ fn fixed_of(s: &[u8], hyper: u64, c: usize, at: usize) -> Fixed
     }
     Fixed {
         answer: Reading::Read,
-        price: price_of(bits::number(s, at, Table::FRAMING_BITS), payload),
+        price: price_of(
+            bits::part(
+                sent,
+                Table::PAYLOAD_BITS + Table::PERIOD_BITS,
+                Table::FRAMING_BITS,
+            ),
+            payload,
+        ),
         times: hyper / period,
-        deadline: bits::number(s, deadline_at, Table::DEADLINE_BITS),
+        deadline: bits::part(due, Table::HOPS_BITS, Table::DEADLINE_BITS),
         hops,
     }
 }
@@ -218,9 +228,10 @@ fn channels_of(s: &[u8], hyper: u64, n: usize, m: usize) -> Channels
         }
         let at = end + Table::FIXED_BITS;
         let count = fixed.hops;
+        let wires = bits::number(s, at, Table::HOP_BITS * count);
         let mut least: u64 = 0;
         for i in 0..count {
-            let wire = bits::number(s, at + Table::HOP_BITS * i, Table::HOP_BITS);
+            let wire = bits::part(wires, Table::HOP_BITS * (count - 1 - i), Table::HOP_BITS);
             if n as u64 <= wire {
                 found = Reading::Refused(9, c as u64);
                 break 'search;

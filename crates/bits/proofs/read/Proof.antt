@@ -38,13 +38,13 @@ module _ (c : tie.Else2) where
       within-le (st .args .s .now) (st .args .at) (st .args .width)
       (sym (c .before .holds .ensures) ∙ not-false (c .before .holds .result) (c .if2 .left))
 
-gather-requires : tie.Need-gather-requires
-gather-requires c κs = omega (arith, inside c)
+found-requires : tie.Need-found-requires
+found-requires c κs = omega (arith, inside c)
 
 returns-3 : tie.Need-returns-3
 returns-3 c =
     let a = st (c .before) .args in
-    ap Number (c .gather .ensures) ∙ sym (takenOf-number (a .s .now) (a .at) (a .width) (omega arith) (inside (c .before)))
+    ap Number (c .found .ensures) ∙ sym (takenOf-number (a .s .now) (a .at) (a .width) (omega arith) (inside (c .before)))
 
 pub read-spec : {M : Type 1} → statement M
-read-spec = tie.close (tie.spec returns holds-requires returns-2 gather-requires returns-3)
+read-spec = tie.close (tie.spec returns holds-requires returns-2 found-requires returns-3)

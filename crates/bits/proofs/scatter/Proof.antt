@@ -1,51 +1,58 @@
--- `bits::scatter` meets its contract. The loop's invariant: the first k bits hold the number less its last width - k bits.
+-- `bits::scatter` meets its contract. The loop's invariant: the first k bytes hold the number less its last count - k bytes.
 -- Assumes nothing.
 use mathlib.Core.Path.{_≡_, refl, sym, ap, ap₂, _∙_}
 use mathlib.Core.List.{List}
-use Prim.Native.Nat.{ℕ, _+_, _-_, _/_, _%_, _≤_, _^_}
+use Prim.Native.Nat.{ℕ, _+_, _-_, _*_, _/_, _%_, _≤_, _<_, _^_}
 use native.Mathlib.Nat.{div-one}
-use native.Mathlib.Numerals.{add-one}
 use native.Mathlib.Omega.{arith}
-use lib.ListN.{length}
+use lib.ListN.{length, set}
 use lib.Pow.{shr-shr}
-use Rattle.bits.specs.Field.{putBit, putField}
-use Rattle.bits.proofs.Laws.{length-putField}
+use Rattle.bits.specs.Field.{putField, Bytes}
+use Rattle.bits.proofs.Laws.{length-putField, put-more}
 use Rattle.bits.proofs.scatter.Statement.{statement}
 use Rattle.bits.proofs.scatter.Tie as tie
 
 abbrev Inv-loop : tie.InvT-loop
-Inv-loop s₀ at width number k₀ s k = (k ≤ width) × (s ≡ putField s₀ at k (number / 2 ^ (width - k)))
+Inv-loop s₀ first count n k₀ s k = (k ≤ count) × (s ≡ putField s₀ (8 * first) (8 * k) (n / 2 ^ (8 * (count - k))))
 
 abbrev μ-loop : tie.MeasureT-loop
-μ-loop s₀ at width number k₀ s k = width - k
+μ-loop s₀ first count n k₀ s k = count - k
 
-same : (c : tie.At-loop Inv-loop μ-loop) → length (c .loop .s) ≡ length (c .before .before .args .s .now)
+same : (c : tie.At-loop Inv-loop μ-loop) → length (c .loop .s) ≡ length (c .before .args .s .now)
 same c = ap length (c .loop .inv .1) ∙ simp length-putField
 
--- one more bit of the number
-more : (s₀ : List ℕ) (at w v k i j : ℕ) {s t : List ℕ} → s ≡ putField s₀ at k (v / 2 ^ (w - k)) → t ≡ putBit s i (v / 2 ^ j % 2)
-    → i ≡ at + k → j + (k + 1) ≡ w → t ≡ putField s₀ at (k + 1) (v / 2 ^ (w - (k + 1)))
-unfolding putField
-more s₀ at w v k i j p q ei ej =
-    let d : w - (k + 1) ≡ j = omega arith in
-    let h : v / 2 ^ (w - k) ≡ v / 2 ^ j / 2 = ap (λ (m : ℕ). v / 2 ^ m) (omega arith) ∙ sym (shr-shr v j 1) in
-    q ∙ rw (ei, p, d, h, add-one)
+-- one more byte of the number
+more : (s₀ : List ℕ) → Bytes s₀ → (first count n k i : ℕ) {s : List ℕ} → k < count → first + k < length s₀
+    → s ≡ putField s₀ (8 * first) (8 * k) (n / 2 ^ (8 * (count - k))) → i ≡ 8 * (count - (k + 1))
+    → set s (first + k) (n / 2 ^ i % 256) ≡ putField s₀ (8 * first) (8 * (k + 1)) (n / 2 ^ (8 * (count - (k + 1))))
+more s₀ bytes first count n k i l h p e =
+    let q : n / 2 ^ (8 * (count - k)) ≡ n / 2 ^ i / 256 = ap (λ (m : ℕ). n / 2 ^ m) (omega arith) ∙ sym (shr-shr n i 8) in
+    rw (p, q, sym e) (put-more s₀ bytes first k (n / 2 ^ i) h)
 
 loop-holds : tie.Need-loop-holds Inv-loop μ-loop
 unfolding putField
 loop-holds c = (omega arith, refl)
 
-sub-put-bit : tie.Need-sub-put-bit Inv-loop μ-loop
-sub-put-bit c = omega arith
+sub-s : tie.Need-sub-s Inv-loop μ-loop
+sub-s c = omega arith
 
-sub-put-bit-2 : tie.Need-sub-put-bit-2 Inv-loop μ-loop
-sub-put-bit-2 c = omega arith
+sub-s-2 : tie.Need-sub-s-2 Inv-loop μ-loop
+sub-s-2 c = omega arith
 
-shr-put-bit : tie.Need-shr-put-bit Inv-loop μ-loop
-shr-put-bit c = omega arith
+mul-s : tie.Need-mul-s Inv-loop μ-loop
+mul-s c = omega arith
 
-put-bit-requires : tie.Need-put-bit-requires Inv-loop μ-loop
-put-bit-requires c κs = omega (arith, same (c .before .before))
+shr-s : tie.Need-shr-s Inv-loop μ-loop
+shr-s c = omega arith
+
+cast-s : tie.Need-cast-s Inv-loop μ-loop
+cast-s c = omega arith
+
+add-s : tie.Need-add-s Inv-loop μ-loop
+add-s c = omega arith
+
+slice-write-s : tie.Need-slice-write-s Inv-loop μ-loop
+slice-write-s c = omega (arith, same (c .before))
 
 add-k : tie.Need-add-k Inv-loop μ-loop
 add-k c = omega arith
@@ -55,11 +62,11 @@ loop-less c = omega arith
 
 loop-again : tie.Need-loop-again Inv-loop μ-loop
 loop-again c =
-    let lp = c .before .before .before .before .before in
-    let a = lp .before .before .args in (
+    let lp = c .before in
+    let a = lp .before .args in (
       omega arith,
-      more (a .s .now) (a .at) (a .width) (a .number) (lp .loop .k) _ _ (lp .loop .inv .1) (c .before .before .put-bit .ensures)
-          (omega arith) (omega arith),
+      more (a .s .now) (lp .before .pre .2) (a .first) (a .count) (a .n) (lp .loop .k) _ (omega arith) (omega arith)
+          (lp .loop .inv .1) (ap (λ (m : ℕ). 8 * m) (omega arith)),
     )
 
 same-length : tie.Need-same-length Inv-loop μ-loop
@@ -67,15 +74,15 @@ same-length c = same (c .before)
 
 returns : tie.Need-returns Inv-loop μ-loop
 returns c =
-    let a = c .before .before .before .args in
+    let a = c .before .before .args in
     let k = c .before .loop .k in
-    let e : k ≡ a .width = omega arith in
-    let z : a .width - k ≡ 0 = omega arith in
+    let e : k ≡ a .count = omega arith in
+    let z : 8 * (a .count - k) ≡ 0 = omega arith in
     c .before .loop .inv .1
-    ∙ ap₂ (λ (m n : ℕ). putField (a .s .now) (a .at) m n) e (ap (λ (m : ℕ). a .number / 2 ^ m) z ∙ div-one (a .number))
+    ∙ ap₂ (λ (m v : ℕ). putField (a .s .now) (8 * a .first) (8 * m) v) e (ap (λ (m : ℕ). a .n / 2 ^ m) z ∙ div-one (a .n))
 
 pub scatter-spec : {M : Type 1} → statement M
 scatter-spec =
     tie.close
-    (tie.spec Inv-loop μ-loop loop-holds sub-put-bit sub-put-bit-2 shr-put-bit put-bit-requires add-k loop-less loop-again
+    (tie.spec Inv-loop μ-loop loop-holds sub-s sub-s-2 mul-s shr-s cast-s add-s slice-write-s add-k loop-less loop-again
     same-length returns)

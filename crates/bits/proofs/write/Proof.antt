@@ -61,8 +61,20 @@ returns-3 c =
     )
     (refl, refl)
 
-scatter-requires : tie.Need-scatter-requires
-scatter-requires c κs = omega (arith, inside (c .before .before))
+module _ (c : tie.Else3) where
+  abbrev given : tie.Start
+  given = st (c .before)
+
+  small : given .args .number < 2 ^ given .args .width
+  small =
+      omega (
+        arith,
+        lt-div-mul-add {a = given .args .number} (pow-pos (given .args .width)),
+        ap (λ (q : ℕ). q * 2 ^ given .args .width) (c .if3 .left),
+      )
+
+put-requires : tie.Need-put-requires
+put-requires c κs = omega (arith, inside (c .before .before), small (c .before))
 
 same-length-3 : tie.Need-same-length-3
 same-length-3 c = search needs
@@ -70,16 +82,14 @@ same-length-3 c = search needs
 returns-4 : tie.Need-returns-4
 returns-4 c =
     let e = c .before .before .before .before in
-    let a = st (e .before) .args in
-    let l : a .number < 2 ^ a .width = omega
-    (arith, lt-div-mul-add {a = a .number} (pow-pos (a .width)), ap (λ (q : ℕ). q * 2 ^ a .width) (e .if3 .left)) in (
-      sym (fieldFits-true (a .s .now) (a .at) (a .width) (omega arith) (inside (e .before)) (a .number) l),
-      c .before .before .scatter .ensures
-          ∙ sym (wroteField-put (a .s .now) (a .at) (a .width) (omega arith) (inside (e .before)) (a .number) l),
+    let a = given e .args in (
+      sym (fieldFits-true (a .s .now) (a .at) (a .width) (omega arith) (inside (e .before)) (a .number) (small e)),
+      c .before .before .put .ensures
+          ∙ sym (wroteField-put (a .s .now) (a .at) (a .width) (omega arith) (inside (e .before)) (a .number) (small e)),
     )
 
 pub write-spec : {M : Type 1} → statement M
 write-spec =
     tie.close
-    (tie.spec returns holds-requires same-length returns-2 shr-if3 same-length-2 returns-3 scatter-requires same-length-3
+    (tie.spec returns holds-requires same-length returns-2 shr-if3 same-length-2 returns-3 put-requires same-length-3
     returns-4)

@@ -8,7 +8,7 @@ use native.Mathlib.Omega.{arith}
 use lib.ListN.{length, getD}
 use borrow.Author.Needs.{needs}
 use Rattle.bits.specs.Field.{field}
-use Rattle.bits.proofs.Laws.{field-lt, number-at}
+use Rattle.bits.proofs.Laws.{field-lt, number-at, part-at}
 use Rattle.rules.specs.declared.Reading.{Reading}
 use Rattle.rules.specs.declared.Reading.the-variants as answer
 use Rattle.rules.specs.Numbers.{headBits, wireBits, fixedBits, hopBits}
@@ -49,11 +49,11 @@ record Here (s : List ℕ) (m : ℕ) (found : Reading) (end : ℕ) (price times 
   pub routes : route ≡ column routesMost (hopsMost * c) (hopOf (viewOf s))
 
 abbrev Inv-loop : tie.InvT-loop
-Inv-loop s hyper n m found₀ end price times deadline hops route₀ c fixed at count least₀ i₀ found route least i =
+Inv-loop s hyper n m found₀ end price times deadline hops route₀ c fixed at count wires least₀ i₀ found route least i =
     HopHere s n c at count found route least i
 
 abbrev μ-loop : tie.MeasureT-loop
-μ-loop s hyper n m found₀ end price times deadline hops route₀ c fixed at count least₀ i₀ found route least i = count - i
+μ-loop s hyper n m found₀ end price times deadline hops route₀ c fixed at count wires least₀ i₀ found route least i = count - i
 
 abbrev Inv-search : tie.InvT-search
 Inv-search s hyper n m found₀ end₀ price₀ times₀ deadline₀ hops₀ route₀ c₀ found end price times deadline hops route c =
@@ -157,12 +157,12 @@ module _ (c : tie.After-enum-told Inv-loop μ-loop Inv-search μ-search) where
 
 loop-holds : tie.Need-loop-holds Inv-loop μ-loop Inv-search μ-search
 loop-holds c =
-    let f = called c in
+    let f = called (c .before) in
     let here = f .before .before .search .inv in
     record {
       most = omega arith;
       none = here .none;
-      hops = hops-start (s f) (n f) (k f) (hops-from c) (count c);
+      hops = hops-start (s f) (n f) (k f) (hops-from (c .before)) (count (c .before));
       routes = here .routes ∙ ap (λ (j : ℕ). column routesMost j (hopOf (viewOf (s f)))) (omega arith);
     }
 
@@ -173,20 +173,29 @@ short : (c : tie.After-enum-told Inv-loop μ-loop Inv-search μ-search)
 short c = (omega arith, fixed c .hops-most, fixed c .route-inside)
 
 mul-number : tie.Need-mul-number Inv-loop μ-loop Inv-search μ-search
-mul-number c = omega (arith, short (c .before .before))
-
-add-number : tie.Need-add-number Inv-loop μ-loop Inv-search μ-search
-add-number c = omega (arith, short (c .before .before))
+mul-number c = omega (arith, short c)
 
 number-requires : tie.Need-number-requires Inv-loop μ-loop Inv-search μ-search
 number-requires c κs = search needs
 
-module _ (c : tie.After-number Inv-loop μ-loop Inv-search μ-search) where
-  abbrev channel : tie.After-enum-told Inv-loop μ-loop Inv-search μ-search
-  channel = c .before .before .before
+sub-part : tie.Need-sub-part Inv-loop μ-loop Inv-search μ-search
+sub-part c = omega arith
 
+sub-part-2 : tie.Need-sub-part-2 Inv-loop μ-loop Inv-search μ-search
+sub-part-2 c = omega arith
+
+mul-part : tie.Need-mul-part Inv-loop μ-loop Inv-search μ-search
+mul-part c = omega (arith, short (c .before .before .before))
+
+part-requires : tie.Need-part-requires Inv-loop μ-loop Inv-search μ-search
+part-requires c κs = search needs
+
+module _ (c : tie.After-part Inv-loop μ-loop Inv-search μ-search) where
   abbrev hop : tie.At-loop Inv-loop μ-loop Inv-search μ-search
   hop = c .before .before
+
+  abbrev channel : tie.After-enum-told Inv-loop μ-loop Inv-search μ-search
+  channel = hop .before .before
 
   abbrev i : ℕ
   i = hop .loop .i
@@ -195,10 +204,14 @@ module _ (c : tie.After-number Inv-loop μ-loop Inv-search μ-search) where
   bytes = s (called channel)
 
   abbrev wire : ℕ
-  wire = c .number .result
+  wire = c .part .result
+
+  -- the bits of the route, and of them the hop's
+  route-is : hop .before .number .result ≡ field bytes (hops-from channel) (hopBits * count channel)
+  route-is = number-at bytes _ _ (omega (arith, short channel)) (omega (arith, short channel)) (hop .before .number .ensures)
 
   wire-is : wire ≡ field bytes (hops-from channel + hopBits * i) hopBits
-  wire-is = number-at bytes _ _ (omega arith) (omega (arith, short channel)) (c .number .ensures)
+  wire-is = part-at bytes _ (hopBits * count channel) _ _ _ (omega arith) (omega (arith, c .before)) (c .part .ensures) route-is
 
   wire-lt : wire < 64
   wire-lt = omega (arith, wire-is, field-lt bytes (hops-from channel + hopBits * i) hopBits)
@@ -229,7 +242,7 @@ loop-less : tie.Need-loop-less Inv-loop μ-loop Inv-search μ-search
 loop-less c = omega arith
 
 -- the wire is the one that the view's route names
-named : (c : tie.After-number Inv-loop μ-loop Inv-search μ-search)
+named : (c : tie.After-part Inv-loop μ-loop Inv-search μ-search)
     → wire c ≡ getD (viewOf (bytes c) .route (k (called (channel c)))) (i c) 0
 named c =
     let f = called (channel c) in
@@ -256,40 +269,40 @@ loop-again c =
     }
 
 mul-price : tie.Need-mul-price Inv-loop μ-loop Inv-search μ-search
-mul-price c = omega (arith, c .before .before .before .before .before)
+mul-price c = omega (arith, c .before .before .before .before .before .before)
 
 array-write-price : tie.Need-array-write-price Inv-loop μ-loop Inv-search μ-search
-array-write-price c = omega (arith, c .before .before .before .before .before)
+array-write-price c = omega (arith, c .before .before .before .before .before .before)
 
 mul-times : tie.Need-mul-times Inv-loop μ-loop Inv-search μ-search
-mul-times c = omega (arith, c .before .before .before .before .before)
+mul-times c = omega (arith, c .before .before .before .before .before .before)
 
 array-write-times : tie.Need-array-write-times Inv-loop μ-loop Inv-search μ-search
-array-write-times c = omega (arith, c .before .before .before .before .before)
+array-write-times c = omega (arith, c .before .before .before .before .before .before)
 
 mul-deadline : tie.Need-mul-deadline Inv-loop μ-loop Inv-search μ-search
-mul-deadline c = omega (arith, c .before .before .before .before .before)
+mul-deadline c = omega (arith, c .before .before .before .before .before .before)
 
 array-write-deadline : tie.Need-array-write-deadline Inv-loop μ-loop Inv-search μ-search
-array-write-deadline c = omega (arith, c .before .before .before .before .before)
+array-write-deadline c = omega (arith, c .before .before .before .before .before .before)
 
 cast-hops : tie.Need-cast-hops Inv-loop μ-loop Inv-search μ-search
-cast-hops c = omega (arith, short (c .before .before))
+cast-hops c = omega (arith, short (c .before .before .before))
 
 array-write-hops : tie.Need-array-write-hops Inv-loop μ-loop Inv-search μ-search
-array-write-hops c = omega (arith, c .before .before .before .before .before)
+array-write-hops c = omega (arith, c .before .before .before .before .before .before)
 
 mul-end-2 : tie.Need-mul-end-2 Inv-loop μ-loop Inv-search μ-search
-mul-end-2 c = omega (arith, short (c .before .before))
+mul-end-2 c = omega (arith, short (c .before .before .before))
 
 add-end-2 : tie.Need-add-end-2 Inv-loop μ-loop Inv-search μ-search
-add-end-2 c = omega (arith, short (c .before .before))
+add-end-2 c = omega (arith, short (c .before .before .before))
 
 add-c : tie.Need-add-c Inv-loop μ-loop Inv-search μ-search
-add-c c = omega (arith, c .before .before .before .before .before)
+add-c c = omega (arith, c .before .before .before .before .before .before)
 
 search-less : tie.Need-search-less Inv-loop μ-loop Inv-search μ-search
-search-less c = omega (arith, c .before .before .before .before .before)
+search-less c = omega (arith, c .before .before .before .before .before .before)
 
 -- channel c's record is at its place in the view
 module _ (c : tie.After-enum-told Inv-loop μ-loop Inv-search μ-search) where
@@ -308,7 +321,7 @@ module _ (c : tie.After-enum-told Inv-loop μ-loop Inv-search μ-search) where
 
 search-again : tie.Need-search-again Inv-loop μ-loop Inv-search μ-search
 search-again c =
-    let e = c .before .before in
+    let e = c .before .before .before in
     let r = called e in
     let here = r .before .before .search .inv in
     let lp = c .before .loop in
@@ -384,7 +397,7 @@ pub channels-of-spec : {M : Type 1} → statement M
 channels-of-spec =
     tie.close
     (tie.spec Inv-loop μ-loop Inv-search μ-search mul-end add-end search-holds fixed-of-requires enum-known-answer
-    enum-told add-at loop-holds mul-number add-number number-requires cast-route mul-route add-route array-write-route
+    enum-told add-at mul-number number-requires loop-holds sub-part sub-part-2 mul-part part-requires cast-route mul-route add-route array-write-route
     add-least add-i loop-less loop-again mul-price array-write-price mul-times array-write-times mul-deadline
     array-write-deadline cast-hops array-write-hops mul-end-2 add-end-2 add-c search-less search-again returns returns-2
     returns-3 returns-4)

@@ -6,8 +6,9 @@ use Prim.Native.Nat.{ℕ, _+_, _*_, _/_, _%_, _≤_, _<_}
 use native.Mathlib.Omega.{arith}
 use lib.ListN.{length}
 use borrow.Author.Needs.{needs}
-use Rattle.bits.proofs.Laws.{field-lt, number-at}
-use Rattle.rules.specs.Numbers.{fixedBits, framingBits, payloadBits, hopBits}
+use Rattle.bits.specs.Field.{field}
+use Rattle.bits.proofs.Laws.{field-lt, number-at, part-at}
+use Rattle.rules.specs.Numbers.{fixedBits, framingBits, payloadBits, periodBits, deadlineBits, hopsBits, hopBits}
 use Rattle.rules.specs.Price.{price}
 use Rattle.rules.specs.Table.{hyperOf, framingAt, payloadAt, periodAt, deadlineAt, hopsAt}
 use Rattle.rules.proofs.Tables.Search.{record-1, record-6, record-7, record-8, record-route, record-hops}
@@ -40,15 +41,6 @@ returns c =
     (record-1 (s st) (k st) (at st)
     (missed (s st) (at st) fixedBits (holds .result) (holds .ensures) (c .before .if1 .taken)))
 
-add-payload-at : tie.Need-add-payload-at
-add-payload-at c = search needs
-
-add-period-at : tie.Need-add-period-at
-add-period-at c = search needs
-
-add-deadline-at : tie.Need-add-deadline-at
-add-deadline-at c = search needs
-
 inside : (c : tie.Else1) → at (c .before .before .before) + fixedBits ≤ 8 * length (s (c .before .before .before))
 inside c =
     let st = c .before .before .before in
@@ -57,36 +49,67 @@ inside c =
 number-requires : tie.Need-number-requires
 number-requires c κs = search needs
 
-number-requires-2 : tie.Need-number-requires-2
-number-requires-2 c κs = search needs
-
 add-number : tie.Need-add-number
 add-number c = search needs
 
-number-requires-3 : tie.Need-number-requires-3
-number-requires-3 c κs = search needs
+add-number-2 : tie.Need-add-number-2
+add-number-2 c = search needs
 
-module _ (c : tie.After-number3) where
+number-requires-2 : tie.Need-number-requires-2
+number-requires-2 c κs = search needs
+
+part-requires : tie.Need-part-requires
+part-requires c κs = search needs
+
+part-requires-2 : tie.Need-part-requires-2
+part-requires-2 c κs = search needs
+
+part-requires-3 : tie.Need-part-requires-3
+part-requires-3 c κs = search needs
+
+-- the fixed bits are read in two parts
+abbrev sentBits : ℕ
+sentBits = framingBits + payloadBits + periodBits
+
+abbrev dueBits : ℕ
+dueBits = deadlineBits + hopsBits
+
+module _ (c : tie.After-part3) where
+  abbrev due : tie.After-number2
+  due = c .before .before .before
+
   abbrev st : tie.Start
-  st = c .before .before .before .before .before .before
+  st = due .before .before .before .before .before
 
   there : at st + fixedBits ≤ 8 * length (s st)
-  there = inside (c .before .before .before)
+  there = inside (due .before .before)
 
-  payload : c .before .before .number .result ≡ payloadAt (s st) (at st)
+  sent-bits : due .before .number .result ≡ field (s st) (at st) sentBits
+  sent-bits = number-at (s st) _ _ (omega arith) (omega (arith, there)) (due .before .number .ensures)
+
+  due-bits : due .number2 .result ≡ field (s st) (at st + sentBits) dueBits
+  due-bits = number-at (s st) _ _ (omega arith) (omega (arith, there)) (due .number2 .ensures)
+
+  payload : c .before .before .part .result ≡ payloadAt (s st) (at st)
   unfolding payloadAt
-  payload = number-at (s st) _ _ (omega arith) (omega (arith, there)) (c .before .before .number .ensures)
+  payload =
+      part-at (s st) (at st) sentBits (at st + framingBits) payloadBits periodBits (omega arith) (omega arith)
+      (c .before .before .part .ensures) sent-bits
 
-  period : c .before .number2 .result ≡ periodAt (s st) (at st)
+  period : c .before .part2 .result ≡ periodAt (s st) (at st)
   unfolding periodAt
-  period = number-at (s st) _ _ (omega arith) (omega (arith, there)) (c .before .number2 .ensures)
+  period =
+      part-at (s st) (at st) sentBits (at st + framingBits + payloadBits) periodBits 0 (omega arith) (omega arith)
+      (c .before .part2 .ensures) sent-bits
 
-  hops : c .number3 .result ≡ hopsAt (s st) (at st)
+  hops : c .part3 .result ≡ hopsAt (s st) (at st)
   unfolding hopsAt
-  hops = number-at (s st) _ _ (omega arith) (omega (arith, there)) (c .number3 .ensures)
+  hops =
+      part-at (s st) (at st + sentBits) dueBits (at st + framingBits + payloadBits + periodBits + deadlineBits) hopsBits 0 (omega arith) (omega arith)
+      (c .part3 .ensures) due-bits
 
   -- what is left of H by the period
-  divided : st .args .hyper % c .before .number2 .result ≡ hyperOf (s st) % periodAt (s st) (at st)
+  divided : st .args .hyper % c .before .part2 .result ≡ hyperOf (s st) % periodAt (s st) (at st)
   divided = ap₂ (λ (h p : ℕ). h % p) (st .pre .0) period
 
 no-fixed-requires-2 : tie.Need-no-fixed-requires-2
@@ -123,7 +146,7 @@ returns-4 c =
     (record-7 (s b) (k b) (at b) (there f) (omega (arith, payload f)) (inr (λ e. c .before .if4 .taken (divided f ∙ e))))
 
 module _ (c : tie.Else4) where
-  abbrev fields : tie.After-number3
+  abbrev fields : tie.After-part3
   fields = c .before .before .before
 
   abbrev begun : tie.Start
@@ -173,22 +196,27 @@ returns-7 c =
     let f = fields g in
     let b = begun g in
     let holds = c .before .before .holds2 in
-    let bits = hopBits * f .number3 .result in
+    let bits = hopBits * f .part3 .result in
     let short : 8 * length (s b) < at b + fixedBits + bits
     = missed (s b) (at b + fixedBits) bits (holds .result) (holds .ensures) (c .before .if7 .taken) in
     refusal _ _ _ 1 0 (c .no-fixed7 .ensures)
     (record-route (s b) (k b) (at b) (there f) (some g) (divides g) (omega (arith, hops f)) (omega (arith, hops f, short)))
 
-number-requires-4 : tie.Need-number-requires-4
-number-requires-4 c κs = search needs
+add-part : tie.Need-add-part
+add-part c = search needs
 
-module _ (c : tie.After-number4) where
+part-requires-4 : tie.Need-part-requires-4
+part-requires-4 c κs = search needs
+
+module _ (c : tie.After-part4) where
   abbrev passed : tie.Else4
   passed = c .before .before .before .before .before
 
-  framing : c .number4 .result ≡ framingAt (s (begun passed)) (at (begun passed))
+  framing : c .part4 .result ≡ framingAt (s (begun passed)) (at (begun passed))
   unfolding framingAt
-  framing = number-at (s (begun passed)) _ _ (omega arith) (omega (arith, there (fields passed))) (c .number4 .ensures)
+  framing =
+      part-at (s (begun passed)) (at (begun passed)) sentBits (at (begun passed)) framingBits (payloadBits + periodBits) (omega arith) (omega arith)
+      (c .part4 .ensures) (sent-bits (fields passed))
 
 price-of-requires : tie.Need-price-of-requires
 unfolding framingAt payloadAt
@@ -200,28 +228,30 @@ price-of-requires c κs =
       omega (arith, payload f, field-lt (s b) (at b + framingBits) payloadBits),
     )
 
-div-t19 : tie.Need-div-t19
-div-t19 c = search needs
+div-t18 : tie.Need-div-t18
+div-t18 c = search needs
 
-number-requires-5 : tie.Need-number-requires-5
-number-requires-5 c κs = search needs
+part-requires-5 : tie.Need-part-requires-5
+part-requires-5 c κs = search needs
 
-module _ (c : tie.After-number5) where
-  abbrev framed : tie.After-number4
+module _ (c : tie.After-part5) where
+  abbrev framed : tie.After-part4
   framed = c .before .before
 
   abbrev all : tie.Else4
   all = passed framed
 
-  deadline : c .number5 .result ≡ deadlineAt (s (begun all)) (at (begun all))
+  deadline : c .part5 .result ≡ deadlineAt (s (begun all)) (at (begun all))
   unfolding deadlineAt
-  deadline = number-at (s (begun all)) _ _ (omega arith) (omega (arith, there (fields all))) (c .number5 .ensures)
+  deadline =
+      part-at (s (begun all)) (at (begun all) + sentBits) dueBits (at (begun all) + framingBits + payloadBits + periodBits) deadlineBits hopsBits (omega arith) (omega arith)
+      (c .part5 .ensures) (due-bits (fields all))
 
-  route : at (begun all) + fixedBits + hopBits * fields all .number3 .result ≤ 8 * length (s (begun all))
+  route : at (begun all) + fixedBits + hopBits * fields all .part3 .result ≤ 8 * length (s (begun all))
   route =
       let left = framed .before in
       let holds = left .before .holds2 in
-      held (s (begun all)) (at (begun all) + fixedBits) (hopBits * fields all .number3 .result) (holds .result) (holds .ensures)
+      held (s (begun all)) (at (begun all) + fixedBits) (hopBits * fields all .part3 .result) (holds .result) (holds .ensures)
       (left .if7 .left)
 
 returns-8 : tie.Need-returns-8
@@ -243,7 +273,7 @@ returns-8 c =
 pub fixed-of-spec : {M : Type 1} → statement M
 fixed-of-spec =
     tie.close
-    (tie.spec holds-requires no-fixed-requires returns add-payload-at add-period-at add-deadline-at number-requires
-    number-requires-2 add-number number-requires-3 no-fixed-requires-2 returns-2 no-fixed-requires-3 returns-3 rem-if4
-    no-fixed-requires-4 returns-4 no-fixed-requires-5 returns-5 no-fixed-requires-6 returns-6 add-holds mul-holds
-    holds-requires-2 no-fixed-requires-7 returns-7 number-requires-4 price-of-requires div-t19 number-requires-5 returns-8)
+    (tie.spec holds-requires no-fixed-requires returns number-requires add-number add-number-2 number-requires-2 part-requires
+    part-requires-2 part-requires-3 no-fixed-requires-2 returns-2 no-fixed-requires-3 returns-3 rem-if4 no-fixed-requires-4
+    returns-4 no-fixed-requires-5 returns-5 no-fixed-requires-6 returns-6 add-holds mul-holds holds-requires-2
+    no-fixed-requires-7 returns-7 add-part part-requires-4 price-of-requires div-t18 part-requires-5 returns-8)

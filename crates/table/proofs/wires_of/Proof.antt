@@ -6,10 +6,11 @@ use Prim.Native.Nat.{ℕ, _+_, _-_, _*_, _≤_, _<_}
 use native.Mathlib.Omega.{arith}
 use lib.ListN.{length, getD}
 use borrow.Author.Needs.{needs}
-use Rattle.bits.proofs.Laws.{number-at}
+use Rattle.bits.specs.Field.{field}
+use Rattle.bits.proofs.Laws.{number-at, part-at}
 use Rattle.rules.specs.declared.Reading.{Reading}
 use Rattle.rules.specs.declared.Reading.the-variants as answer
-use Rattle.rules.specs.Numbers.{rates, wireBits, wiresMost}
+use Rattle.rules.specs.Numbers.{rates, wireBits, rateBits, propBits, roomBits, wiresMost}
 use Rattle.rules.specs.Table.{wireAt, codeOf, rateOf, propOf, roomOf}
 use Rattle.rules.specs.Reading.{wireTests}
 use Rattle.rules.specs.Decoded.{column}
@@ -75,19 +76,31 @@ inside c =
 number-requires : tie.Need-number-requires Inv-loop μ-loop
 number-requires c κs = search needs
 
+add-part : tie.Need-add-part Inv-loop μ-loop
+add-part c = omega arith
+
+part-requires : tie.Need-part-requires Inv-loop μ-loop
+part-requires c κs = search needs
+
 rate-requires : tie.Need-rate-requires Inv-loop μ-loop
 rate-requires c κs = search needs
 
 module _ (c : tie.After-rate Inv-loop μ-loop) where
   abbrev top : tie.In-loop Inv-loop μ-loop
-  top = c .before .before .before .before
+  top = c .before .before .before .before .before
 
   whole : wireAt (w top) + wireBits ≤ 8 * length (s top)
-  whole = inside (c .before .before)
+  whole = inside (c .before .before .before)
 
-  code : c .before .number .result ≡ codeOf (s top) (w top)
-  unfolding codeOf wireAt
-  code = number-at (s top) _ _ (omega arith) (omega (arith, whole)) (c .before .number .ensures)
+  bits : c .before .before .number .result ≡ field (s top) (wireAt (w top)) wireBits
+  unfolding wireAt
+  bits = number-at (s top) _ _ (omega arith) (omega (arith, whole)) (c .before .before .number .ensures)
+
+  code : c .before .part .result ≡ codeOf (s top) (w top)
+  unfolding codeOf
+  code =
+      part-at (s top) (wireAt (w top)) wireBits (wireAt (w top)) rateBits (propBits + roomBits) (omega arith) (omega arith)
+      (c .before .part .ensures) bits
 
   coded : c .rate .result ≡ getD rates (codeOf (s top) (w top)) 0
   coded = c .rate .ensures ∙ ap (λ (k : ℕ). getD rates k 0) code
@@ -102,11 +115,8 @@ mul-rate c = omega arith
 array-write-rate : tie.Need-array-write-rate Inv-loop μ-loop
 array-write-rate c = omega arith
 
-add-number : tie.Need-add-number Inv-loop μ-loop
-add-number c = omega arith
-
-number-requires-2 : tie.Need-number-requires-2 Inv-loop μ-loop
-number-requires-2 c κs = search needs
+part-requires-2 : tie.Need-part-requires-2 Inv-loop μ-loop
+part-requires-2 c κs = search needs
 
 mul-prop : tie.Need-mul-prop Inv-loop μ-loop
 mul-prop c = omega arith
@@ -114,14 +124,8 @@ mul-prop c = omega arith
 array-write-prop : tie.Need-array-write-prop Inv-loop μ-loop
 array-write-prop c = omega arith
 
-add-number-2 : tie.Need-add-number-2 Inv-loop μ-loop
-add-number-2 c = omega arith
-
-add-number-3 : tie.Need-add-number-3 Inv-loop μ-loop
-add-number-3 c = omega arith
-
-number-requires-3 : tie.Need-number-requires-3 Inv-loop μ-loop
-number-requires-3 c κs = search needs
+part-requires-3 : tie.Need-part-requires-3 Inv-loop μ-loop
+part-requires-3 c κs = search needs
 
 mul-room : tie.Need-mul-room Inv-loop μ-loop
 mul-room c = omega arith
@@ -135,7 +139,7 @@ add-w c = omega arith
 loop-less : tie.Need-loop-less Inv-loop μ-loop
 loop-less c = omega arith
 
-module _ (c : tie.After-number3 Inv-loop μ-loop) where
+module _ (c : tie.After-part3 Inv-loop μ-loop) where
   abbrev rated : tie.After-rate Inv-loop μ-loop
   rated = c .before .before .before
 
@@ -145,13 +149,17 @@ module _ (c : tie.After-number3 Inv-loop μ-loop) where
   some : codeOf (s turn) (w turn) < length rates
   some = some-rate (codeOf (s turn) (w turn)) (λ e. c .before .before .if2 .left (coded rated ∙ e))
 
-  prop : c .before .number2 .result ≡ propOf (s turn) (w turn)
-  unfolding propOf wireAt
-  prop = number-at (s turn) _ _ (omega arith) (omega (arith, whole rated)) (c .before .number2 .ensures)
+  prop : c .before .part2 .result ≡ propOf (s turn) (w turn)
+  unfolding propOf
+  prop =
+      part-at (s turn) (wireAt (w turn)) wireBits (wireAt (w turn) + rateBits) propBits roomBits (omega arith) (omega arith)
+      (c .before .part2 .ensures) (bits rated)
 
-  room : c .number3 .result ≡ roomOf (s turn) (w turn)
-  unfolding roomOf wireAt
-  room = number-at (s turn) _ _ (omega arith) (omega (arith, whole rated)) (c .number3 .ensures)
+  room : c .part3 .result ≡ roomOf (s turn) (w turn)
+  unfolding roomOf
+  room =
+      part-at (s turn) (wireAt (w turn)) wireBits (wireAt (w turn) + rateBits + propBits) roomBits 0 (omega arith) (omega arith)
+      (c .part3 .ensures) (bits rated)
 
 loop-again : tie.Need-loop-again Inv-loop μ-loop
 loop-again c =
@@ -204,6 +212,6 @@ returns-3 c =
 pub wires-of-spec : {M : Type 1} → statement M
 wires-of-spec =
     tie.close
-    (tie.spec Inv-loop μ-loop loop-holds mul-at add-at holds-requires number-requires rate-requires mul-rate
-    array-write-rate add-number number-requires-2 mul-prop array-write-prop add-number-2 add-number-3 number-requires-3
-    mul-room array-write-room add-w loop-less loop-again returns returns-2 returns-3)
+    (tie.spec Inv-loop μ-loop loop-holds mul-at add-at holds-requires number-requires add-part part-requires rate-requires
+    mul-rate array-write-rate part-requires-2 mul-prop array-write-prop part-requires-3 mul-room array-write-room add-w
+    loop-less loop-again returns returns-2 returns-3)
