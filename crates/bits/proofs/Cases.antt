@@ -2,7 +2,8 @@
 use mathlib.Core.Path.{_≡_, refl}
 use mathlib.Core.Bool.{true, false}
 use mathlib.Core.List.{[], _∷_}
-use Rattle.bits.specs.Field.{bit, field, within, putBit, putField}
+use lib.ListN.{replicate}
+use Rattle.bits.specs.Field.{bit, field, within, putBit, putField, served}
 
 -- the four low bits of the first byte, then the four high ones of the second
 pub middle : field (0x12 ∷ 0x34 ∷ []) 4 8 ≡ 0x23
@@ -22,3 +23,10 @@ last-bits = refl
 
 pub past-the-end : within (0 ∷ 0 ∷ []) 4 13 ≡ false
 past-the-end = refl
+
+-- 57 bits of eight bytes are served, and no more, though they are there
+pub widest-served : served (replicate 8 0) 0 57 ≡ true
+widest-served = refl
+
+pub wider-not-served : served (replicate 8 0) 0 58 ≡ false
+wider-not-served = refl

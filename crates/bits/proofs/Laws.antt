@@ -1,7 +1,7 @@
 -- Laws of bits and fields, over lists of numbers. Where no bound on a byte is asked, the list need not be of bytes.
 use mathlib.Core.Path.{_≡_, refl, sym, ap, ap₂, subst, _∙_}
 use mathlib.Core.Logic.{_≢_, _⊎_, inl, inr}
-use mathlib.Core.Bool.{Bool, true}
+use mathlib.Core.Bool.{Bool, true, false, _&&_}
 use mathlib.Core.List.{List, _++_}
 use Prim.Native.Nat.{ℕ, zero, suc, _+_, _-_, _*_, _/_, _%_, _^_, _≤_, _<_}
 use native.Mathlib.Nat.{zero-lt-suc, le-dest, add-zero, add-suc, pow-suc, zero-div, mod-lt, div-one, div-eq-of-lt}
@@ -12,6 +12,7 @@ use lib.ListN.{length, getD, set, take, replicate, length-set, List·getD-eq-def
 use lib.Seq.{getD-set-same, getD-set-other, set-out, set-getD, getD-take, getD-append-add, ext-getD}
 use lib.Arith.{digits-lt, digits-mod}
 use lib.Pow.{pow-pos, pow-add, shr-lt, shr-shr, split, high, low, mod-pow-add, mod-mod-pow, field as Pow·field}
+use lib.Dec.{leb}
 use borrow.Author.Tests.{le-leb, leb-true, lt-ltb}
 use Rattle.bits.specs.Field.{bit, field, within, byteWith, putBit, putField, Bytes}
 use Rattle.bits.specs.Field.{widest, served, takenOf, numberOf, fieldFits, wroteField}
@@ -440,6 +441,20 @@ module _ (s : List ℕ) (a c at w t : ℕ) (starts : a ≤ at) (ends : at + w + 
 
 pub within-le : (s : List ℕ) (at w : ℕ) → within s at w ≡ true → at + w ≤ 8 * length s
 within-le s at w e = leb-true (at + w) (8 * length s) e
+
+first-of-both : (a b : Bool) → (a && b) ≡ true → a ≡ true
+first-of-both true b e = refl
+first-of-both false b e = e
+
+-- what is served
+module _ (s : List ℕ) (at w : ℕ) (is : served s at w ≡ true) where
+  pub served-narrow : w ≤ widest
+  served-narrow = leb-true w widest (first-of-both (leb w widest) (within s at w) is)
+
+  pub served-inside : at + w ≤ 8 * length s
+  served-inside =
+      let e : served s at w ≡ within s at w = rw (le-leb w widest served-narrow) in
+      within-le s at w (sym e ∙ is)
 
 -- where the field is served
 module _ (s : List ℕ) (at w : ℕ) (narrow : w ≤ widest) (inside : at + w ≤ 8 * length s) where

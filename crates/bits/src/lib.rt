@@ -2,7 +2,7 @@
 ghost use mathlib.Core.Path.{_≡_};
 ghost use Prim.Native.Nat.{_+_, _*_, _/_, _%_, _^_, _≤_, _<_};
 ghost use lib.ListN.{length, replicate};
-ghost use Rattle.bits.specs.Field.{Bytes, field, within, putField, takenOf, numberOf, fieldFits, wroteField, widest};
+ghost use Rattle.bits.specs.Field.{Bytes, field, within, putField, served, takenOf, numberOf, fieldFits, wroteField, widest};
 ghost use Rattle.bits.specs.Around.{Around};
 
 // The widest field that is served.
@@ -54,6 +54,15 @@ pub fn holds(s: &[u8], at: usize, width: usize) -> bool
     ensures { λ r. ⌜ r ≡ within (now (s .entry)) at width ⌝ }
 {
     at / 8 + width / 8 + (at % 8 + width % 8 + 7) / 8 <= s.len()
+}
+
+fn serves(s: &[u8], at: usize, width: usize) -> bool
+    ensures { λ r. ⌜ r ≡ served (now (s .entry)) at width ⌝ }
+{
+    if width > WIDEST {
+        return false;
+    }
+    holds(s, at, width)
 }
 
 // The number in `count` bytes.
@@ -114,10 +123,7 @@ fn found(s: &[u8], at: usize, width: usize) -> u64
 pub fn read(s: &[u8], at: usize, width: usize) -> Taken
     ensures { λ r. ⌜ r ≡ takenOf (now (s .entry)) at width ⌝ }
 {
-    if width > WIDEST {
-        return Taken::Nothing;
-    }
-    if !holds(s, at, width) {
+    if !serves(s, at, width) {
         return Taken::Nothing;
     }
     Taken::Number(found(s, at, width))
@@ -175,10 +181,7 @@ pub fn write(s: &mut [u8], at: usize, width: usize, number: u64) -> bool
     ensures { λ r. ⌜ r ≡ fieldFits (now (s .entry)) at width number ⌝ }
     ensures { λ _. ⌜ now (s .exit) ≡ wroteField (now (s .entry)) at width number ⌝ }
 {
-    if width > WIDEST {
-        return false;
-    }
-    if !holds(s, at, width) {
+    if !serves(s, at, width) {
         return false;
     }
     if number >> width != 0 {
