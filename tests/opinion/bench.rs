@@ -1,7 +1,7 @@
-//! The benchmark: the face and the baseline judge the same accepted tables in one run. It prints
-//! times and ratios and asserts none of them.
+//! The benchmark: the library and both judges in Rust judge the same accepted tables in one run. It
+//! prints times and ratios and asserts none of them.
 
-use crate::ffi::{Baseline, Face};
+use crate::ffi::{self, Face};
 use crate::generate::{self, Shape, LONGEST};
 use crate::rng::Rng;
 use std::hint::black_box;
@@ -13,19 +13,18 @@ const HOPS: u64 = 8;
 /// Judgements timed together.
 const BATCH: u32 = 20;
 
-pub fn run(face: &dyn Face, seed: u64, repetitions: u64) {
-    println!("{} against the baseline, medians of {repetitions} times {BATCH} judgements", face.name());
-    println!("wires channels bytes  wires x channels + hops      face ns  baseline ns   ratio  face ns/unit  baseline ns/unit");
+pub fn run(seed: u64, repetitions: u64) {
+    let faces = ffi::NAMES.map(|name| ffi::named(name).unwrap());
+    println!("nanoseconds of one judgement, medians of {repetitions} times {BATCH}");
+    println!("wires channels bytes  library baseline ordinary  library/baseline  library/ordinary");
     for (wires, channels) in SIZES {
         let table = table(seed, wires, channels);
-        let (mine, base) = medians(face, &table, repetitions);
-        let units = (wires * channels + channels * HOPS) as f64;
+        let [library, baseline, ordinary] = medians(&faces, &table, repetitions);
         println!(
-            "{wires:5} {channels:8} {:5} {units:24} {mine:12.0} {base:12.0} {:7.2} {:13.2} {:17.2}",
+            "{wires:5} {channels:8} {:5} {library:8.0} {baseline:8.0} {ordinary:8.0} {:17.2} {:17.2}",
             table.len(),
-            mine / base,
-            mine / units,
-            base / units
+            library / baseline,
+            library / ordinary
         );
     }
 }
@@ -50,15 +49,15 @@ fn table(seed: u64, wires: u64, channels: u64) -> Vec<u8> {
     }
 }
 
-/// The median times of one judgement, in nanoseconds, both taken in turn.
-fn medians(face: &dyn Face, table: &[u8], repetitions: u64) -> (f64, f64) {
-    let mut mine = Vec::new();
-    let mut base = Vec::new();
+/// The median times of one judgement, in nanoseconds, all taken in turn.
+fn medians(faces: &[Box<dyn Face>; 3], table: &[u8], repetitions: u64) -> [f64; 3] {
+    let mut times = [(); 3].map(|()| Vec::new());
     for _ in 0..repetitions {
-        mine.push(time(face, table));
-        base.push(time(&Baseline, table));
+        for (face, times) in faces.iter().zip(&mut times) {
+            times.push(time(face.as_ref(), table));
+        }
     }
-    (median(mine), median(base))
+    times.map(median)
 }
 
 fn time(face: &dyn Face, table: &[u8]) -> f64 {

@@ -1,10 +1,10 @@
-//! The library's C face, `libmagsurinda.a`, and faces of the same kind: the baseline, and faces
+//! The library's C face, `libmagsurinda.a`, and faces of the same kind: two judges in Rust, and faces
 //! broken on purpose. With `--cfg archive` the runner links the library, with `--cfg piped` besides it
-//! asks those for other processors as well; without either only the baseline stands behind the same
-//! interface, to try the runner itself.
+//! asks those for other processors as well; without either the baseline stands in the library's place,
+//! to try the runner itself.
 
-use crate::baseline;
 use crate::opinion::Answer;
+use crate::{baseline, ordinary};
 
 /// One face: the four functions, over slices.
 pub trait Face {
@@ -19,23 +19,58 @@ pub trait Face {
     }
 }
 
-pub struct Baseline;
+/// A judge in Rust.
+struct Judge {
+    name: &'static str,
+    judge: fn(&[u8], &mut [u8]) -> u64,
+    ask_wire: fn(&[u8], u64) -> u64,
+    ask_channel: fn(&[u8], u64) -> u64,
+    price: fn(u64, u64) -> u64,
+}
 
-impl Face for Baseline {
+const BASELINE: Judge = Judge {
+    name: "baseline",
+    judge: baseline::judge,
+    ask_wire: baseline::ask_wire,
+    ask_channel: baseline::ask_channel,
+    price: baseline::price,
+};
+
+const ORDINARY: Judge = Judge {
+    name: "ordinary",
+    judge: ordinary::judge,
+    ask_wire: ordinary::ask_wire,
+    ask_channel: ordinary::ask_channel,
+    price: ordinary::price,
+};
+
+impl Face for Judge {
     fn judge(&self, table: &[u8], sheet: &mut [u8]) -> u64 {
-        baseline::judge(table, sheet)
+        (self.judge)(table, sheet)
     }
     fn ask_wire(&self, sheet: &[u8], wire: u64) -> u64 {
-        baseline::ask_wire(sheet, wire)
+        (self.ask_wire)(sheet, wire)
     }
     fn ask_channel(&self, sheet: &[u8], channel: u64) -> u64 {
-        baseline::ask_channel(sheet, channel)
+        (self.ask_channel)(sheet, channel)
     }
     fn price(&self, framing: u64, payload: u64) -> u64 {
-        baseline::price(framing, payload)
+        (self.price)(framing, payload)
     }
     fn name(&self) -> &'static str {
-        "baseline"
+        self.name
+    }
+}
+
+/// The names that `named` knows.
+pub const NAMES: [&str; 3] = ["library", "baseline", "ordinary"];
+
+pub fn named(name: &str) -> Option<Box<dyn Face>> {
+    match name {
+        "library" => Some(built_for()),
+        "baseline" => Some(Box::new(BASELINE)),
+        "ordinary" => Some(Box::new(ORDINARY)),
+        _ => None,
     }
 }
 
@@ -86,7 +121,7 @@ impl Face for Library {
     }
 }
 
-/// The face that the runner was built for.
+/// The library, as the runner was built for it.
 #[cfg(all(archive, not(piped)))]
 pub fn built_for() -> Box<dyn Face> {
     Box::new(Library)
@@ -99,7 +134,7 @@ pub fn built_for() -> Box<dyn Face> {
 
 #[cfg(not(archive))]
 pub fn built_for() -> Box<dyn Face> {
-    Box::new(Baseline)
+    Box::new(BASELINE)
 }
 
 // ---- the reply in 64 bits ----

@@ -11,6 +11,7 @@ mod generate;
 mod hex;
 mod machine;
 mod opinion;
+mod ordinary;
 #[cfg(piped)]
 mod piped;
 mod rng;
@@ -26,15 +27,16 @@ opinion vectors FILE TABLES
 opinion compare [OPTIONS]  the face compared with the second opinion on generated tables
     --seed S             another seed; --tables N   more tables
     --reduced N          only N tables, with no demand on their counts
-    --baseline           compare the baseline in the place of the library
+    --face NAME          library, or one of two judges in Rust: baseline, ordinary
     --break N            compare a face with fault N: has to exit 1
 opinion machine [--seed S] [--tables N]
                          the slot machine driven by adversaries on tables with nothing to spare; a small N
                          leaves wrong figures standing, and does not count as passed
 opinion bench [--seed S] [--repetitions N]
-                         times of the face and of the baseline, and their ratio at three sizes
+                         times of the library and of both judges in Rust, and ratios, at three sizes
 opinion sizes FOLDER     writes the tables of these three sizes
-opinion judged TIMES FILE  has the baseline judge a table so many times
+opinion judged NAME TIMES FILE
+                         has the face of that name judge a table so many times
 opinion scripted         eight small runs of the slot machine, slot by slot
 opinion faults           the faults that --break knows, one to a line
 Exit status: 0 agreed; 1 a disagreement or a figure exceeded, printed; 2 bad usage; 4 too few of a
@@ -52,7 +54,7 @@ fn main() {
         ["machine", ref rest @ ..] => run_machine(rest),
         ["bench", ref rest @ ..] => run_bench(rest),
         ["sizes", folder] => bench::write_tables(SEED, folder).unwrap_or_else(|why| unreadable(folder, why)),
-        ["judged", times, file] => run_judged(times, file),
+        ["judged", name, times, file] => run_judged(name, times, file),
         ["scripted"] => print!("{}", scripted::text()),
         ["faults"] => broken::FAULTS.iter().enumerate().for_each(|(at, what)| println!("{} {what}", at + 1)),
         _ => usage(),
@@ -69,37 +71,33 @@ fn fail(status: i32, why: &str) -> ! {
     exit(status)
 }
 
-/// The options given, each with its number.
+/// The options given, each with its word.
 struct Options<'a>(&'a [&'a str]);
 
-impl Options<'_> {
+impl<'a> Options<'a> {
+    /// Refuses names that are not of the list.
+    fn of(words: &'a [&'a str], names: &[&str]) -> Options<'a> {
+        if words.chunks(2).any(|option| option.len() < 2 || !names.contains(&option[0])) {
+            usage();
+        }
+        Options(words)
+    }
+
+    fn word(&self, name: &str) -> Option<&'a str> {
+        self.0.chunks(2).find(|option| option[0] == name).map(|option| option[1])
+    }
+
     fn number(&self, name: &str) -> Option<u64> {
-        let at = self.0.iter().position(|&word| word == name)?;
-        match self.0.get(at + 1).map(|word| word.parse()) {
-            Some(Ok(number)) => Some(number),
-            _ => usage(),
-        }
-    }
-
-    fn has(&self, name: &str) -> bool {
-        self.0.contains(&name)
-    }
-
-    /// Refuses words that are neither a name of the list nor its number.
-    fn only(&self, numbered: &[&str], plain: &[&str]) {
-        let mut words = self.0.iter();
-        while let Some(word) = words.next() {
-            if numbered.contains(word) {
-                words.next();
-            } else if !plain.contains(word) {
-                usage();
-            }
-        }
+        self.word(name).map(|word| word.parse().unwrap_or_else(|_| usage()))
     }
 
     fn seed(&self) -> u64 {
         self.number("--seed").unwrap_or(SEED)
     }
+}
+
+fn face(name: &str) -> Box<dyn Face> {
+    ffi::named(name).unwrap_or_else(|| usage())
 }
 
 fn unreadable(file: &str, why: std::io::Error) -> ! {
@@ -122,9 +120,8 @@ fn run_vectors(file: &str, tables: &str) {
 }
 
 fn run_compare(words: &[&str]) {
-    let options = Options(words);
-    options.only(&["--seed", "--tables", "--reduced", "--break"], &["--baseline"]);
-    let mut face: Box<dyn Face> = if options.has("--baseline") { Box::new(ffi::Baseline) } else { ffi::built_for() };
+    let options = Options::of(words, &["--seed", "--tables", "--reduced", "--face", "--break"]);
+    let mut face = face(options.word("--face").unwrap_or("library"));
     if let Some(fault) = options.number("--break") {
         let Some(broken) = broken::Broken::new(face, fault as usize) else { usage() };
         face = Box::new(broken);
@@ -150,8 +147,7 @@ fn run_compare(words: &[&str]) {
 }
 
 fn run_machine(words: &[&str]) {
-    let options = Options(words);
-    options.only(&["--seed", "--tables"], &[]);
+    let options = Options::of(words, &["--seed", "--tables"]);
     let face = ffi::built_for();
     let tables = options.number("--tables").unwrap_or(drive::TABLES);
     let mut drive = drive::Drive::new(face.as_ref(), options.seed());
@@ -173,12 +169,11 @@ fn run_machine(words: &[&str]) {
 }
 
 fn run_bench(words: &[&str]) {
-    let options = Options(words);
-    options.only(&["--seed", "--repetitions"], &[]);
-    bench::run(ffi::built_for().as_ref(), options.seed(), options.number("--repetitions").unwrap_or(501));
+    let options = Options::of(words, &["--seed", "--repetitions"]);
+    bench::run(options.seed(), options.number("--repetitions").unwrap_or(501));
 }
 
-fn run_judged(times: &str, file: &str) {
+fn run_judged(name: &str, times: &str, file: &str) {
     let table = std::fs::read(file).unwrap_or_else(|why| unreadable(file, why));
-    bench::judge(&ffi::Baseline, &table, times.parse().unwrap_or_else(|_| usage()));
+    bench::judge(face(name).as_ref(), &table, times.parse().unwrap_or_else(|_| usage()));
 }
