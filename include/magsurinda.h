@@ -1,13 +1,13 @@
-/* Magsurinda for C: judging a table, asking a sheet, asking a price. Link libmagsurinda.a (`./library`): it is for Linux on one
-   processor, x86-64, aarch64 or riscv64, with the calling convention that C has there.
+/* Magsurinda for C: judging a table, asking a sheet, asking a price, asking a roll of labels. Link libmagsurinda.a (`./library`):
+   it is for Linux on one processor, x86-64, aarch64 or riscv64, with the calling convention that C has there.
 
    Every function takes any bytes and numbers and always replies. What the caller ensures, without which a call is undefined:
    - each pointer is good for the length given with it; NULL is allowed where that length is 0, and only there;
    - the buffers of one call do not overlap;
    - MAGSURINDA_STACK bytes of stack are left.
    No function allocates, or keeps a pointer or anything else from one call to the next. So calls may run in several threads at
-   once, each with a lent buffer of its own; a table, and a sheet that is only asked, may be shared. The archive needs memcpy
-   and memset of the C library, and nothing else.
+   once, each with a lent buffer of its own; a table, a roll, and a sheet that is only asked, may be shared. The archive needs
+   memcpy and memset of the C library, and nothing else.
 
    The reply, in 64 bits: refusal number * 2^56 + place * 2^48 + value. The number is 0 where the question is granted; the value
    is 0 where it is refused. The functions at the end take it apart. */
@@ -25,6 +25,9 @@ extern "C" {
 #define MAGSURINDA_TABLE_LONGEST 2165
 #define MAGSURINDA_SHEET_LONGEST 834
 
+/* The longest roll of labels that is sound, in bytes. */
+#define MAGSURINDA_ROLL_LONGEST 3201
+
 /* Bytes of stack that no call exceeds: measured at the longest table (tests/stack), with some 5,000 to spare; not proved. */
 #define MAGSURINDA_STACK 40960
 
@@ -32,7 +35,8 @@ extern "C" {
    machines. magsurinda_requests() says it of the library; a caller whose header and archive may differ compares the two. */
 #define MAGSURINDA_REQUESTS (UINT64_C(1) << 2 | UINT64_C(1) << 4)
 
-/* Document 01's numbers of refusal. The place is a wire's or a channel's number where the line names one, else 0. */
+/* The numbers of refusal of document 01 and of request Q-1. The place is a wire's or a channel's number where the line names
+   one, else 0. */
 enum magsurinda_refusal {
     MAGSURINDA_GRANTED = 0,
 
@@ -60,7 +64,11 @@ enum magsurinda_refusal {
     MAGSURINDA_REFUSED_NO_SUCH = 19,       /* no such wire or channel */
 
     /* of a price, before 6 */
-    MAGSURINDA_REFUSED_FRAMING = 20        /* framing other than 0 or 1 */
+    MAGSURINDA_REFUSED_FRAMING = 20,       /* framing other than 0 or 1 */
+
+    /* of a roll of labels: the whole roll, then the number */
+    MAGSURINDA_REFUSED_ROLL = 21,          /* any fault in the roll */
+    MAGSURINDA_REFUSED_NO_SUCH_LABEL = 22  /* a number not below the count */
 };
 
 /* Judges a table and writes its sheet into the lent buffer. Granted: the sheet's length in bytes; the bytes after it are 255.
@@ -77,6 +85,11 @@ uint64_t magsurinda_ask_channel(const uint8_t *sheet, size_t sheet_len, uint64_t
    then 6. */
 uint64_t magsurinda_price(uint64_t framing, uint64_t payload);
 
+/* Asks a roll of labels, exactly its bytes, for a channel's. A roll has a byte for the count (1 to 128), then for each channel a
+   length byte (1 to 24) and that many bytes, each from 32 to 126, and nothing after. Granted: where the label starts in the roll
+   * 2^16 + its length, both in bytes; no 0 byte ends it. Refused: 21, then 22. */
+uint64_t magsurinda_label(const uint8_t *roll, size_t roll_len, uint64_t number);
+
 /* Which requests are in the rules that the library is proved for, as MAGSURINDA_REQUESTS; no reply of the form above. */
 uint64_t magsurinda_requests(void);
 
@@ -91,6 +104,11 @@ static inline size_t magsurinda_sheet_length(uint64_t reply) { return (size_t)ma
 static inline uint32_t magsurinda_wire_backlog(uint64_t reply) { return (uint32_t)(magsurinda_value(reply) >> 24); }
 static inline uint32_t magsurinda_wire_delay(uint64_t reply) { return (uint32_t)(magsurinda_value(reply) & 0xFFFFFFu); }
 static inline uint32_t magsurinda_channel_delay(uint64_t reply) { return (uint32_t)magsurinda_value(reply); }
+
+/* Of what is granted by asking for a label: the stretch of the caller's own roll that holds it. Of a refusal both are 0, an empty
+   stretch. */
+static inline size_t magsurinda_label_start(uint64_t reply) { return (size_t)(magsurinda_value(reply) >> 16); }
+static inline size_t magsurinda_label_length(uint64_t reply) { return (size_t)(magsurinda_value(reply) & 0xFFFFu); }
 
 #ifdef __cplusplus
 }

@@ -1,4 +1,4 @@
-/* Judges case A, asks its sheet back, and tries what a caller may get wrong. */
+/* Judges case A, asks its sheet back, asks a roll for its labels, and tries what a caller may get wrong. */
 #include "magsurinda.h"
 #include <stdio.h>
 #include <string.h>
@@ -28,8 +28,10 @@ static const char *why(unsigned number) {
     case MAGSURINDA_REFUSED_SHEET_FILLING: return "a filling bit not 0";
     case MAGSURINDA_REFUSED_NO_SUCH: return "no such wire or channel";
     case MAGSURINDA_REFUSED_FRAMING: return "framing other than 0 or 1";
+    case MAGSURINDA_REFUSED_ROLL: return "any fault in the roll";
+    case MAGSURINDA_REFUSED_NO_SUCH_LABEL: return "a number not below the count";
     }
-    return "no number of document 01";
+    return "no number of a refusal";
 }
 
 static void show(const char *what, uint64_t reply) {
@@ -54,12 +56,41 @@ static int all_255(const uint8_t *bytes, size_t n) {
     return 1;
 }
 
+/* A roll's labels, as it stands in the caller's own bytes. */
+static void show_labels(const uint8_t *roll, size_t length) {
+    for (unsigned channel = 0; channel < roll[0]; channel++) {
+        uint64_t reply = magsurinda_label(roll, length, channel);
+        expect("a label is granted", magsurinda_number(reply) == MAGSURINDA_GRANTED);
+        printf("channel %u: \"%.*s\"\n", channel, (int)magsurinda_label_length(reply),
+               (const char *)roll + magsurinda_label_start(reply));
+    }
+}
+
+static void with_labels(void) {
+    static const char text[] = "\3" "\16" "fan 12 command" "\1" "~" "\30" "camera 7, shaft 2, north";
+    enum { LENGTH = sizeof text - 1 };
+    uint8_t roll[LENGTH];
+    memcpy(roll, text, LENGTH);
+    show_labels(roll, LENGTH);
+    uint64_t reply = magsurinda_label(roll, LENGTH, 2);
+    printf("label 2: from byte %zu, %zu bytes\n", magsurinda_label_start(reply), magsurinda_label_length(reply));
+    show("label 3", magsurinda_label(roll, LENGTH, 3));
+    for (size_t n = 0; n < LENGTH; n++) {
+        reply = magsurinda_label(roll, n, 0);
+        expect("a prefix of a roll is refused", magsurinda_number(reply) == MAGSURINDA_REFUSED_ROLL);
+        expect("with an empty stretch", magsurinda_label_start(reply) == 0 && magsurinda_label_length(reply) == 0);
+    }
+    roll[LENGTH - 1] = 0xE9;
+    show("another letter in label 2, asked for label 0", magsurinda_label(roll, LENGTH, 0));
+    show("no roll", magsurinda_label(NULL, 0, 0));
+}
+
 int main(void) {
     static const uint8_t table[19] = {0x00, 0x03, 0x70, 0x02, 0x02, 0x00, 0xE0, 0x01, 0x8C, 0x80,
                                       0x00, 0x10, 0x00, 0x05, 0x80, 0x00, 0xC6, 0xB1, 0x00};
     static uint8_t sheet[MAGSURINDA_SHEET_LONGEST], longer[MAGSURINDA_TABLE_LONGEST + 1];
-    printf("a table has at most %d bytes, a sheet %d; a call takes at most %d bytes of stack\n", MAGSURINDA_TABLE_LONGEST,
-           MAGSURINDA_SHEET_LONGEST, MAGSURINDA_STACK);
+    printf("a table has at most %d bytes, a sheet %d, a roll %d; a call takes at most %d bytes of stack\n",
+           MAGSURINDA_TABLE_LONGEST, MAGSURINDA_SHEET_LONGEST, MAGSURINDA_ROLL_LONGEST, MAGSURINDA_STACK);
 
     printf("requests in the header: %#llx, in the library: %#llx\n", (unsigned long long)MAGSURINDA_REQUESTS,
            (unsigned long long)magsurinda_requests());
@@ -108,5 +139,7 @@ int main(void) {
     show("nothing at all", magsurinda_judge(NULL, 0, NULL, 0));
     show("no sheet", magsurinda_ask_wire(NULL, 0, 0));
     show("a sheet that a refusal left", magsurinda_ask_channel(sheet, sizeof sheet, 0));
+
+    with_labels();
     return failed;
 }

@@ -1,5 +1,5 @@
-/* The header's names and numbers against what the library does: every refusal by its name, from a table, a sheet or a price that
-   has this fault alone, and the longest table and sheet, with the longest shipped table on standard input. */
+/* The header's names and numbers against what the library does: every refusal by its name, from a table, a sheet, a price or a
+   roll that has this fault alone, and the longest table, sheet and roll, with the longest shipped table on standard input. */
 #include "magsurinda.h"
 #include "draft.h"
 #include <stdio.h>
@@ -8,6 +8,9 @@
 _Static_assert(MAGSURINDA_TABLE_LONGEST == (24 + 7 + 8 + 64 * (2 + 10 + 24) + 128 * (1 + 16 + 24 + 24 + 4 + 8 * 6) + 7) / 8, "");
 _Static_assert(MAGSURINDA_SHEET_LONGEST == (7 + 8 + 64 * (24 + 24) + 128 * 28 + 7) / 8, "");
 _Static_assert(MAGSURINDA_TABLE_LONGEST == 2165 && MAGSURINDA_SHEET_LONGEST == 834, "as document 01 says");
+
+/* Document 02, request Q-1: the count, and 128 times a length byte and 24 more. */
+_Static_assert(MAGSURINDA_ROLL_LONGEST == 1 + 128 * (1 + 24), "");
 
 static int failed, named;
 
@@ -104,10 +107,72 @@ static void of_the_longest(void) {
             MAGSURINDA_REFUSED_FURTHER, 0);
 }
 
+/* Where that label stands. */
+static int stands(uint64_t reply, size_t start, size_t length) {
+    return magsurinda_number(reply) == MAGSURINDA_GRANTED && magsurinda_place(reply) == 0 &&
+           magsurinda_label_start(reply) == start && magsurinda_label_length(reply) == length;
+}
+
+/* Two labels, "a" and "bc", with another byte in one place. */
+static uint64_t label(size_t place, uint8_t byte, size_t length, uint64_t number) {
+    uint8_t roll[] = {2, 1, 'a', 2, 'b', 'c', 0};
+    roll[place] = byte;
+    return magsurinda_label(roll, length, number);
+}
+
+static void of_rolls(void) {
+    expect("label 0", stands(label(6, 0, 6, 0), 2, 1));
+    expect("label 1", stands(label(6, 0, 6, 1), 4, 2));
+    expect("bytes 32 and 126", stands(label(2, 32, 6, 1), 4, 2) && stands(label(5, 126, 6, 1), 4, 2));
+    refused("label 2 of two", label(6, 0, 6, 2), MAGSURINDA_REFUSED_NO_SUCH_LABEL, 0);
+    refused("label 2^32", label(6, 0, 6, UINT64_C(1) << 32), MAGSURINDA_REFUSED_NO_SUCH_LABEL, 0);
+    refused("label 2^64 - 1", label(6, 0, 6, UINT64_MAX), MAGSURINDA_REFUSED_NO_SUCH_LABEL, 0);
+    refused("no roll", magsurinda_label(NULL, 0, 0), MAGSURINDA_REFUSED_ROLL, 0);
+    refused("no roll, and no such label", magsurinda_label(NULL, 0, UINT64_MAX), MAGSURINDA_REFUSED_ROLL, 0);
+    for (size_t length = 0; length < 6; length++)
+        refused("a roll cut short", label(6, 0, length, 0), MAGSURINDA_REFUSED_ROLL, 0);
+    refused("a byte after", label(6, 0, 7, 0), MAGSURINDA_REFUSED_ROLL, 0);
+    refused("a label after", label(6, 1, 7, 0), MAGSURINDA_REFUSED_ROLL, 0);
+    refused("a count of 0", label(0, 0, 1, 0), MAGSURINDA_REFUSED_ROLL, 0);
+    refused("a label more than there are", label(0, 3, 6, 0), MAGSURINDA_REFUSED_ROLL, 0);
+    refused("a label fewer", label(0, 1, 6, 0), MAGSURINDA_REFUSED_ROLL, 0);
+    refused("a length of 0", label(3, 0, 4, 0), MAGSURINDA_REFUSED_ROLL, 0);
+    refused("a length that runs past the end", label(3, 3, 6, 0), MAGSURINDA_REFUSED_ROLL, 0);
+    refused("byte 31", label(5, 31, 6, 0), MAGSURINDA_REFUSED_ROLL, 0);
+    refused("byte 127", label(2, 127, 6, 1), MAGSURINDA_REFUSED_ROLL, 0);
+    refused("a fault, and no such label", label(5, 127, 6, 2), MAGSURINDA_REFUSED_ROLL, 0);
+}
+
+/* As many labels of as many bytes each. */
+static size_t write_roll(uint8_t *roll, unsigned count, unsigned length) {
+    uint8_t *next = roll;
+    *next++ = (uint8_t)count;
+    for (unsigned k = 0; k < count; k++) {
+        *next++ = (uint8_t)length;
+        memset(next, '!' + (int)k % 90, length);
+        next += length;
+    }
+    return (size_t)(next - roll);
+}
+
+static void of_the_longest_roll(void) {
+    static uint8_t roll[2 * MAGSURINDA_ROLL_LONGEST];
+    size_t length = write_roll(roll, 128, 24);
+    expect("the longest roll has as many bytes as any", length == MAGSURINDA_ROLL_LONGEST);
+    expect("its first label", stands(magsurinda_label(roll, length, 0), 2, 24));
+    expect("its last label", stands(magsurinda_label(roll, length, 127), MAGSURINDA_ROLL_LONGEST - 24, 24));
+    refused("label 128", magsurinda_label(roll, length, 128), MAGSURINDA_REFUSED_NO_SUCH_LABEL, 0);
+    refused("a byte more than any roll has", magsurinda_label(roll, length + 1, 0), MAGSURINDA_REFUSED_ROLL, 0);
+    refused("129 labels", magsurinda_label(roll, write_roll(roll, 129, 24), 0), MAGSURINDA_REFUSED_ROLL, 0);
+    refused("labels of 25 bytes", magsurinda_label(roll, write_roll(roll, 128, 25), 0), MAGSURINDA_REFUSED_ROLL, 0);
+}
+
 int main(void) {
     of_tables();
     of_sheets_and_prices();
     of_the_longest();
+    of_rolls();
+    of_the_longest_roll();
     printf("%d refusals by name\n", named);
     return failed;
 }

@@ -466,3 +466,32 @@ pub fn ask_channel(sheet: &[u8], channel: u64) -> u64 {
         Ok((wires, _)) => Cursor { bytes: sheet, at: 15 + 48 * wires + 28 * channel as usize }.word() >> 36,
     }
 }
+
+// ---- asking a roll ----
+
+pub fn label(roll: &[u8], number: u64) -> u64 {
+    labels(roll, number).unwrap_or(refusal(21, 0))
+}
+
+/// The label's start and length, or 22; None for a roll with a fault.
+fn labels(roll: &[u8], number: u64) -> Option<u64> {
+    let &count = roll.first()?;
+    if count.wrapping_sub(1) > 127 {
+        return None;
+    }
+    let mut found = refusal(22, 0);
+    let mut at = 1;
+    for label in 0..count as u64 {
+        let &length = roll.get(at)?;
+        let start = at + 1;
+        at = start + length as usize;
+        let bytes = roll.get(start..at)?;
+        if length.wrapping_sub(1) > 23 || bytes.iter().any(|byte| byte.wrapping_sub(32) > 94) {
+            return None;
+        }
+        if label == number {
+            found = (start as u64) << 16 | length as u64;
+        }
+    }
+    (at == roll.len()).then_some(found)
+}

@@ -1,9 +1,9 @@
 //! Faces broken on purpose, one fault each: the comparison has to see every one of them.
 
 use crate::ffi::{self, Face};
-use crate::opinion::{self, Answer, Figures, Refusal, Rules, Table, FULL_FRAME, RULES};
+use crate::opinion::{self, Answer, Figures, Limits, Refusal, Rules, Table, FULL_FRAME, LIMITS, RULES};
 
-pub const FAULTS: [&str; 27] = [
+pub const FAULTS: [&str; 41] = [
     "the length of an accepted sheet is one more",
     "refusal 14 is called 13",
     "every refusal has place 0",
@@ -31,6 +31,20 @@ pub const FAULTS: [&str; 27] = [
     "a hold is rounded down to whole slots",
     "the hold is added to the delay and not to the backlog",
     "an unused wire is held",
+    "a label is one byte to the side",
+    "a label's length byte is counted in",
+    "a label's end stands in the place of its length",
+    "a label of 25 bytes is taken",
+    "an empty label is taken",
+    "byte 31 is taken in a label",
+    "byte 127 is taken in a label",
+    "129 labels are taken",
+    "no labels are taken for a roll",
+    "the last label is not tested",
+    "labels after the one asked for are not tested",
+    "a byte after a roll is overlooked",
+    "refusal 22 comes before 21",
+    "labels are numbered modulo 2^32",
 ];
 
 pub struct Broken {
@@ -92,6 +106,32 @@ impl Broken {
             Ok(opinion::write_sheet(&figures))
         }))
     }
+}
+
+/// The limits of a roll, one of them wrong.
+fn wrong_limits(fault: usize) -> Option<Limits> {
+    Some(match fault {
+        31 => Limits { length: 1..=25, ..LIMITS },
+        32 => Limits { length: 0..=24, ..LIMITS },
+        33 => Limits { byte: 31..=126, ..LIMITS },
+        34 => Limits { byte: 32..=127, ..LIMITS },
+        35 => Limits { count: 1..=129, ..LIMITS },
+        36 => Limits { count: 0..=128, ..LIMITS },
+        _ => return None,
+    })
+}
+
+/// The roll with blanks in the place of its last label.
+fn last_blank(roll: &[u8]) -> Option<Vec<u8>> {
+    let last = opinion::split_labels(roll.get(1..)?)?.last()?.len();
+    Some([&roll[..roll.len() - last], &vec![b' '; last]].concat())
+}
+
+/// The roll up to that label, and so counted; None where it is not below the count.
+fn up_to(roll: &[u8], number: u64) -> Option<Vec<u8>> {
+    let count = (0..*roll.first()?).position(|label| label as u64 == number)? + 1;
+    let end = (0..count).try_fold(1, |at, _| Some(at + 1 + *roll.get(at)? as usize))?;
+    Some([&[count as u8][..], roll.get(1..end)?].concat())
 }
 
 /// The table with smaller rooms and deadlines.
@@ -198,6 +238,26 @@ impl Face for Broken {
             (18, 0, 1_530) => self.inner.price(framing, payload) + 1,
             (19, _, 65_536) => self.inner.price(framing, 1),
             _ => self.inner.price(framing, payload),
+        }
+    }
+
+    fn label(&self, roll: &[u8], number: u64) -> u64 {
+        if let Some(limits) = wrong_limits(self.fault) {
+            let read = opinion::read_roll(roll, &limits);
+            return ffi::label_reply(&read.and_then(|labels| opinion::label(&labels, number)));
+        }
+        let right = self.inner.label(roll, number);
+        let granted = right >> 56 == 0;
+        match (self.fault, roll) {
+            (28, _) if granted => right + (1 << 16),
+            (29, _) if granted => right - (1 << 16) + 1,
+            (30, _) if granted => right + (right >> 16),
+            (37, _) => last_blank(roll).map_or(right, |other| self.inner.label(&other, number)),
+            (38, _) => up_to(roll, number).map_or(right, |part| self.inner.label(&part, number)),
+            (39, [shorter @ .., _]) if self.inner.label(shorter, 0) >> 56 == 0 => self.inner.label(shorter, number),
+            (40, _) if roll.first().is_none_or(|&count| number >= count as u64) => 22 << 56,
+            (41, _) => self.inner.label(roll, number & 0xffff_ffff),
+            _ => right,
         }
     }
 

@@ -1,10 +1,12 @@
-//! The comparison: the face against the second opinion, on many generated tables, sheets and prices.
+//! The comparison: the face against the second opinion, on many generated tables, sheets, prices and
+//! rolls of labels.
 
 use crate::ffi::{self, Face};
 use crate::generate::{self, Draft, Hyperperiod, Shape};
 use crate::hex;
 use crate::opinion::{self, Answer};
 use crate::rng::Rng;
+use crate::rolls::Rolls;
 use std::collections::HashSet;
 use std::hash::{DefaultHasher, Hash, Hasher};
 
@@ -36,6 +38,7 @@ pub struct Comparison<'a> {
     longest: u64,
     asked: u64,
     prices: u64,
+    rolls: Rolls<'a>,
     /// Tables by the reply to their first judgement; 0 is accepted.
     by_table: [u64; 21],
     /// Refusals of every kind of question.
@@ -60,6 +63,7 @@ impl<'a> Comparison<'a> {
             longest: 0,
             asked: 0,
             prices: 0,
+            rolls: Rolls::new(face, seed),
             by_table: [0; 21],
             by_number: [0; 21],
         }
@@ -69,6 +73,8 @@ impl<'a> Comparison<'a> {
     pub fn run(&mut self, tables: u64) -> Outcome {
         self.prices(1)?;
         self.empty_sheets()?;
+        self.rolls.longest(1)?;
+        self.rolls.round()?;
         self.longest_tables()?;
         self.rounds(tables)
     }
@@ -77,6 +83,7 @@ impl<'a> Comparison<'a> {
     pub fn run_reduced(&mut self, tables: u64) -> Outcome {
         self.prices(97)?;
         self.empty_sheets()?;
+        self.rolls.longest(100)?;
         self.edges_of(&generate::LONGEST)?;
         self.rounds(tables)
     }
@@ -91,6 +98,7 @@ impl<'a> Comparison<'a> {
     }
 
     fn round(&mut self, round: u64) -> Outcome {
+        self.rolls.round()?;
         for _ in 0..40 {
             self.edges_of(&generate::SMALL)?;
         }
@@ -405,6 +413,7 @@ impl<'a> Comparison<'a> {
         for number in 1..=20 {
             println!("{number:7} {:7} {:14}", self.by_table[number], self.by_number[number]);
         }
+        self.rolls.print();
     }
 
     /// What the gate demands and this run has not.
@@ -423,16 +432,19 @@ impl<'a> Comparison<'a> {
         for number in 1..=20 {
             demand(format!("refusal {number}"), self.by_number[number], EACH_NUMBER);
         }
+        for (what, count, least) in self.rolls.demands() {
+            demand(what, count, least);
+        }
         all
     }
 }
 
-fn hash(table: &[u8]) -> u64 {
+pub fn hash(bytes: &[u8]) -> u64 {
     let mut hasher = DefaultHasher::new();
-    table.hash(&mut hasher);
+    bytes.hash(&mut hasher);
     hasher.finish()
 }
 
-fn show_reply(reply: u64) -> String {
+pub fn show_reply(reply: u64) -> String {
     format!("number {} place {} value {}", reply >> 56, reply >> 48 & 255, reply & ((1 << 48) - 1))
 }

@@ -5,13 +5,15 @@
 
 use crate::opinion::Answer;
 use crate::{baseline, ordinary};
+use std::ops::Range;
 
-/// One face: the four functions, over slices.
+/// One face: the five functions that reply, over slices.
 pub trait Face {
     fn judge(&self, table: &[u8], sheet: &mut [u8]) -> u64;
     fn ask_wire(&self, sheet: &[u8], wire: u64) -> u64;
     fn ask_channel(&self, sheet: &[u8], channel: u64) -> u64;
     fn price(&self, framing: u64, payload: u64) -> u64;
+    fn label(&self, roll: &[u8], number: u64) -> u64;
     fn name(&self) -> &'static str;
     /// Whether NULL with length 0 gets the replies of empty slices.
     fn null_is_empty(&self) -> bool {
@@ -26,6 +28,7 @@ struct Judge {
     ask_wire: fn(&[u8], u64) -> u64,
     ask_channel: fn(&[u8], u64) -> u64,
     price: fn(u64, u64) -> u64,
+    label: fn(&[u8], u64) -> u64,
 }
 
 const BASELINE: Judge = Judge {
@@ -34,6 +37,7 @@ const BASELINE: Judge = Judge {
     ask_wire: baseline::ask_wire,
     ask_channel: baseline::ask_channel,
     price: baseline::price,
+    label: baseline::label,
 };
 
 const ORDINARY: Judge = Judge {
@@ -42,6 +46,7 @@ const ORDINARY: Judge = Judge {
     ask_wire: ordinary::ask_wire,
     ask_channel: ordinary::ask_channel,
     price: ordinary::price,
+    label: ordinary::label,
 };
 
 impl Face for Judge {
@@ -56,6 +61,9 @@ impl Face for Judge {
     }
     fn price(&self, framing: u64, payload: u64) -> u64 {
         (self.price)(framing, payload)
+    }
+    fn label(&self, roll: &[u8], number: u64) -> u64 {
+        (self.label)(roll, number)
     }
     fn name(&self) -> &'static str {
         self.name
@@ -82,6 +90,7 @@ mod archive {
         pub fn magsurinda_ask_wire(sheet: *const u8, sheet_len: usize, wire: u64) -> u64;
         pub fn magsurinda_ask_channel(sheet: *const u8, sheet_len: usize, channel: u64) -> u64;
         pub fn magsurinda_price(framing: u64, payload: u64) -> u64;
+        pub fn magsurinda_label(roll: *const u8, roll_len: usize, number: u64) -> u64;
     }
 }
 
@@ -89,7 +98,7 @@ mod archive {
 #[cfg(archive)]
 pub struct Library;
 
-// SAFETY, for all four: pointer and length come from one live slice, the table and the lent sheet
+// SAFETY, for all five: pointer and length come from one live slice, the table and the lent sheet
 // are different slices, and the library reads and writes only within them.
 #[cfg(archive)]
 impl Face for Library {
@@ -105,6 +114,9 @@ impl Face for Library {
     fn price(&self, framing: u64, payload: u64) -> u64 {
         unsafe { archive::magsurinda_price(framing, payload) }
     }
+    fn label(&self, roll: &[u8], number: u64) -> u64 {
+        unsafe { archive::magsurinda_label(roll.as_ptr(), roll.len(), number) }
+    }
     fn name(&self) -> &'static str {
         "libmagsurinda.a"
     }
@@ -117,6 +129,7 @@ impl Face for Library {
                 && archive::magsurinda_judge(table.as_ptr(), 5, null_mut(), 0) == self.judge(&table, &mut [])
                 && archive::magsurinda_ask_wire(null(), 0, 0) == self.ask_wire(&[], 0)
                 && archive::magsurinda_ask_channel(null(), 0, 0) == self.ask_channel(&[], 0)
+                && archive::magsurinda_label(null(), 0, 0) == self.label(&[], 0)
         }
     }
 }
@@ -157,4 +170,8 @@ pub fn wire_reply(answer: &Answer<(u128, u128)>) -> u64 {
 
 pub fn figure_reply(answer: &Answer<u128>) -> u64 {
     in_64_bits(answer, |&figure| figure as u64)
+}
+
+pub fn label_reply(answer: &Answer<Range<usize>>) -> u64 {
+    in_64_bits(answer, |stretch| (stretch.start << 16 | stretch.len()) as u64)
 }

@@ -40,12 +40,12 @@ pub struct Draft {
 }
 
 /// Bits gathered most significant first.
-struct Roll {
+struct Gathered {
     bytes: Vec<u8>,
     bits: usize,
 }
 
-impl Roll {
+impl Gathered {
     fn put(&mut self, width: usize, value: u64) {
         for place in (0..width).rev() {
             if self.bits % 8 == 0 {
@@ -60,36 +60,36 @@ impl Roll {
 
 impl Draft {
     pub fn encode(&self) -> Vec<u8> {
-        self.roll().bytes
+        self.gathered().bytes
     }
 
-    fn roll(&self) -> Roll {
-        let mut roll = Roll { bytes: Vec::new(), bits: 0 };
-        roll.put(24, self.hyperperiod);
-        roll.put(7, self.wire_count);
-        roll.put(8, self.channel_count);
+    fn gathered(&self) -> Gathered {
+        let mut gathered = Gathered { bytes: Vec::new(), bits: 0 };
+        gathered.put(24, self.hyperperiod);
+        gathered.put(7, self.wire_count);
+        gathered.put(8, self.channel_count);
         for wire in &self.wires {
-            roll.put(2, wire.code);
-            roll.put(10, wire.propagation);
-            roll.put(24, wire.room);
+            gathered.put(2, wire.code);
+            gathered.put(10, wire.propagation);
+            gathered.put(24, wire.room);
         }
         for channel in &self.channels {
-            roll.put(1, channel.framing);
-            roll.put(16, channel.payload);
-            roll.put(24, channel.period);
-            roll.put(24, channel.deadline);
-            roll.put(4, channel.hops);
+            gathered.put(1, channel.framing);
+            gathered.put(16, channel.payload);
+            gathered.put(24, channel.period);
+            gathered.put(24, channel.deadline);
+            gathered.put(4, channel.hops);
             for &wire in &channel.route {
-                roll.put(6, wire);
+                gathered.put(6, wire);
             }
         }
-        roll
+        gathered
     }
 
     /// How many filling bits the last byte has.
     fn filling(&self) -> usize {
-        let roll = self.roll();
-        8 * roll.bytes.len() - roll.bits
+        let gathered = self.gathered();
+        8 * gathered.bytes.len() - gathered.bits
     }
 
     fn count(&mut self) {
@@ -573,11 +573,11 @@ pub fn extreme_header(rng: &mut Rng) -> Vec<u8> {
     let wires = rng.pick(&[0, 1, 2, 63, 64, 65, 127, random]);
     let random = rng.range(0, 255);
     let channels = rng.pick(&[0, 1, 2, 127, 128, 129, 255, random]);
-    let mut roll = Roll { bytes: Vec::new(), bits: 0 };
-    roll.put(24, hyperperiod);
-    roll.put(7, wires);
-    roll.put(8, channels);
-    let mut bytes = roll.bytes;
+    let mut gathered = Gathered { bytes: Vec::new(), bits: 0 };
+    gathered.put(24, hyperperiod);
+    gathered.put(7, wires);
+    gathered.put(8, channels);
+    let mut bytes = gathered.bytes;
     let count = rng.pick(&[0, 0, 1, 10, 100, 300]);
     let count = rng.range(0, count) as usize;
     if rng.chance(1, 3) {
@@ -596,11 +596,11 @@ pub fn random_bytes(rng: &mut Rng) -> Vec<u8> {
     if rng.chance(1, 2) && count > 5 {
         let wires = rng.range(1, 4);
         let channels = rng.range(1, 4);
-        let mut roll = Roll { bytes: Vec::new(), bits: 0 };
-        roll.put(24, rng.range(1, 12_500_000));
-        roll.put(7, wires);
-        roll.put(8, channels);
-        bytes[..5].copy_from_slice(&roll.bytes);
+        let mut gathered = Gathered { bytes: Vec::new(), bits: 0 };
+        gathered.put(24, rng.range(1, 12_500_000));
+        gathered.put(7, wires);
+        gathered.put(8, channels);
+        bytes[..5].copy_from_slice(&gathered.bytes);
     }
     bytes
 }

@@ -15,6 +15,7 @@ mod ordinary;
 #[cfg(piped)]
 mod piped;
 mod rng;
+mod rolls;
 mod scripted;
 mod vectors;
 
@@ -22,9 +23,9 @@ use ffi::Face;
 use std::process::exit;
 
 const USAGE: &str = "\
-opinion vectors FILE TABLES
+opinion vectors FILE.. TABLES
                          the outside vectors and a folder of tables, answered by the second opinion and by the face
-opinion compare [OPTIONS]  the face compared with the second opinion on generated tables
+opinion compare [OPTIONS]  the face compared with the second opinion on generated tables and rolls of labels
     --seed S             another seed; --tables N   more tables
     --reduced N          only N tables, with no demand on their counts
     --face NAME          library, or one of two judges in Rust: baseline, ordinary
@@ -49,7 +50,7 @@ fn main() {
     let words: Vec<String> = std::env::args().skip(1).collect();
     let words: Vec<&str> = words.iter().map(String::as_str).collect();
     match words[..] {
-        ["vectors", file, tables] => run_vectors(file, tables),
+        ["vectors", ref files @ .., tables] => run_vectors(files, tables),
         ["compare", ref rest @ ..] => run_compare(rest),
         ["machine", ref rest @ ..] => run_machine(rest),
         ["bench", ref rest @ ..] => run_bench(rest),
@@ -105,14 +106,17 @@ fn unreadable(file: &str, why: std::io::Error) -> ! {
     exit(2)
 }
 
-fn run_vectors(file: &str, tables: &str) {
+fn run_vectors(files: &[&str], tables: &str) {
     let face = ffi::built_for();
-    let text = std::fs::read_to_string(file).unwrap_or_else(|why| unreadable(file, why));
     let told = |why: String| -> ! { fail(1, &format!("vectors: {why}")) };
     vectors::document_prices(face.as_ref()).unwrap_or_else(|why| told(why));
     vectors::short_cases(face.as_ref()).unwrap_or_else(|why| told(why));
     let shipped = vectors::shipped_tables(tables, face.as_ref()).unwrap_or_else(|why| told(why));
-    let kinds = vectors::run(&text, face.as_ref()).unwrap_or_else(|why| told(why));
+    let mut kinds = vectors::Kinds::new();
+    for file in files {
+        let text = std::fs::read_to_string(file).unwrap_or_else(|why| unreadable(file, why));
+        vectors::run(&text, face.as_ref(), &mut kinds).unwrap_or_else(|why| told(format!("{file}, {why}")));
+    }
     if kinds.values().sum::<usize>() < vectors::LINES || shipped < vectors::TABLES {
         fail(4, &format!("vectors: too few: {kinds:?}, {shipped} shipped tables"));
     }

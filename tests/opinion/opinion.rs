@@ -1,7 +1,10 @@
-//! The second opinion: the rules of document 01 and of requests, written from those documents alone.
+//! The second opinion: the rules of document 01 and of requests, written from those documents alone.
 //!
 //! It goes about the work by other means than the proved code: the bits are spread out into a list,
-//! a table is decoded into structs, and all arithmetic has 128 bits.
+//! a table is decoded into structs, and all arithmetic has 128 bits; a roll is taken apart to its end
+//! before anything of it is tested.
+
+use std::ops::{Range, RangeInclusive};
 
 /// Why a question was refused: the number and the place of document 01's list.
 #[derive(Clone, Copy, Debug, PartialEq, Eq)]
@@ -472,4 +475,55 @@ pub fn ask_wire(sheet: &[u8], number: u64) -> Answer<(u128, u128)> {
 /// Asks a sheet for a channel's end-to-end delay.
 pub fn ask_channel(sheet: &[u8], number: u64) -> Answer<u128> {
     read_sheet(sheet)?.channel(number)
+}
+
+// ---- the roll of labels ----
+
+/// What makes a roll sound. Faults hand in other limits.
+pub struct Limits {
+    pub count: RangeInclusive<usize>,
+    pub length: RangeInclusive<usize>,
+    pub byte: RangeInclusive<u8>,
+}
+
+pub const LIMITS: Limits = Limits { count: 1..=128, length: 1..=24, byte: 32..=126 };
+
+/// Every length byte with the bytes that it counts, to the end; None where there are fewer.
+pub fn split_labels(mut rest: &[u8]) -> Option<Vec<&[u8]>> {
+    let mut labels = Vec::new();
+    while let Some((&length, others)) = rest.split_first() {
+        let (label, behind) = others.split_at_checked(length as usize)?;
+        labels.push(label);
+        rest = behind;
+    }
+    Some(labels)
+}
+
+/// Reads a roll: refusal 21.
+pub fn read_roll<'a>(bytes: &'a [u8], limits: &Limits) -> Answer<Vec<&'a [u8]>> {
+    let Some((&count, rest)) = bytes.split_first() else { return refuse(21, 0) };
+    let Some(labels) = split_labels(rest) else { return refuse(21, 0) };
+    let counted = labels.len() == count as usize && limits.count.contains(&labels.len());
+    let lengths = labels.iter().all(|label| limits.length.contains(&label.len()));
+    let letters = labels.concat().iter().all(|byte| limits.byte.contains(byte));
+    if counted && lengths && letters {
+        Ok(labels)
+    } else {
+        refuse(21, 0)
+    }
+}
+
+/// Where a label of a sound roll stands in it.
+pub fn label(labels: &[&[u8]], number: u64) -> Answer<Range<usize>> {
+    if number >= labels.len() as u64 {
+        return refuse(22, 0);
+    }
+    let (before, from) = labels.split_at(number as usize);
+    let start = 1 + before.concat().len() + before.len() + 1;
+    Ok(start..start + from[0].len())
+}
+
+/// Asks a roll for a label.
+pub fn ask_label(roll: &[u8], number: u64) -> Answer<Range<usize>> {
+    label(&read_roll(roll, &LIMITS)?, number)
 }

@@ -362,7 +362,39 @@ fn numbered<T>(list: &[T], number: u64) -> Answer<&T> {
     }
 }
 
-// ---- the four questions ----
+// ---- the roll of labels ----
+
+struct Label {
+    start: usize,
+    length: usize,
+}
+
+/// The labels of a sound roll.
+fn labels(roll: &[u8]) -> Option<Vec<Label>> {
+    let count = *roll.first()?;
+    if !(1..=128).contains(&count) {
+        return None;
+    }
+    let mut labels = Vec::new();
+    let mut position = 1;
+    for _ in 0..count {
+        let length = *roll.get(position)? as usize;
+        let start = position + 1;
+        let text = roll.get(start..start + length)?;
+        if !(1..=24).contains(&length) || !text.iter().all(|byte| (32..=126).contains(byte)) {
+            return None;
+        }
+        labels.push(Label { start, length });
+        position = start + length;
+    }
+    if position == roll.len() {
+        Some(labels)
+    } else {
+        None
+    }
+}
+
+// ---- the five questions ----
 
 fn judged(table: &[u8], lent: &mut [u8]) -> Answer<u64> {
     let table = Table::read(table)?;
@@ -397,4 +429,12 @@ pub fn price(framing: u64, payload: u64) -> u64 {
         return reply(refuse(6, 0));
     }
     reply(Ok(framing.price(payload)))
+}
+
+pub fn label(roll: &[u8], number: u64) -> u64 {
+    let Some(labels) = labels(roll) else { return reply(refuse(21, 0)) };
+    match usize::try_from(number).ok().and_then(|number| labels.get(number)) {
+        Some(label) => reply(Ok((label.start as u64) << 16 | label.length as u64)),
+        None => reply(refuse(22, 0)),
+    }
 }

@@ -84,6 +84,10 @@ impl Face for Together {
         self.ask(b'P', [framing, payload], &[]);
         self.hold(Library.price(framing, payload), &[])
     }
+    fn label(&self, roll: &[u8], number: u64) -> u64 {
+        self.ask(b'L', [roll.len() as u64, number], &[roll]);
+        self.hold(Library.label(roll, number), &[roll])
+    }
     fn name(&self) -> &'static str {
         concat!("libmagsurinda.a, here and for ", env!("OTHERS"))
     }

@@ -1,5 +1,5 @@
 /* The library as a process, for a runner on another processor: questions on standard input, replies on standard output, numbers
-   with the low byte first. Table and sheet lie between bytes that must stay as they are. */
+   with the low byte first. Tables, sheets and rolls lie between bytes that must stay as they are. */
 #include "magsurinda.h"
 #include <stddef.h>
 #include <stdio.h>
@@ -75,9 +75,11 @@ static void judge(size_t table_length, size_t sheet_length)
 
 static void ask(int kind, size_t length, uint64_t which)
 {
-    uint8_t *sheet = block(length);
-    reply(kind, (kind == 'W' ? magsurinda_ask_wire : magsurinda_ask_channel)(sheet, length, which));
-    give_back(sheet, length);
+    uint8_t *asked = block(length);
+    reply(kind, (kind == 'W'   ? magsurinda_ask_wire
+                 : kind == 'C' ? magsurinda_ask_channel
+                               : magsurinda_label)(asked, length, which));
+    give_back(asked, length);
 }
 
 /* Whether NULL with length 0 gets the replies of empty blocks. */
@@ -87,7 +89,8 @@ static int null_is_empty(void)
     return magsurinda_judge(NULL, 0, NULL, 0) == magsurinda_judge(none, 0, none + 1, 0)
         && magsurinda_judge(table, 5, NULL, 0) == magsurinda_judge(table, 5, none, 0)
         && magsurinda_ask_wire(NULL, 0, 0) == magsurinda_ask_wire(none, 0, 0)
-        && magsurinda_ask_channel(NULL, 0, 0) == magsurinda_ask_channel(none, 0, 0);
+        && magsurinda_ask_channel(NULL, 0, 0) == magsurinda_ask_channel(none, 0, 0)
+        && magsurinda_label(NULL, 0, 0) == magsurinda_label(none, 0, 0);
 }
 
 int main(void)
@@ -96,7 +99,7 @@ int main(void)
         uint64_t first = number(), second = number();
         if (kind == 'J')
             judge(first, second);
-        else if (kind == 'W' || kind == 'C')
+        else if (kind == 'W' || kind == 'C' || kind == 'L')
             ask(kind, first, second);
         else if (kind == 'P')
             reply(kind, magsurinda_price(first, second));

@@ -6,19 +6,21 @@ use crate::hex;
 use crate::opinion::{self, Answer, Refusal};
 use std::collections::BTreeMap;
 
-/// Lines that a whole file of vectors has.
-pub const LINES: usize = 700;
+/// Lines that the files of vectors have together.
+pub const LINES: usize = 860;
 /// Tables that are shipped at least.
 pub const TABLES: usize = 17;
 
-/// Runs a file of vectors; returns how many lines of each kind there were, or the first wrong line.
-pub fn run(text: &str, face: &dyn Face) -> Result<BTreeMap<String, usize>, String> {
-    let mut kinds = BTreeMap::new();
+/// How many lines there were of each kind.
+pub type Kinds = BTreeMap<String, usize>;
+
+/// Runs a file of vectors; counts its lines, or returns the first wrong one.
+pub fn run(text: &str, face: &dyn Face, kinds: &mut Kinds) -> Result<(), String> {
     for (index, line) in text.lines().enumerate() {
         let kind = check_line(line, face).map_err(|why| format!("line {}: {why}\n{line}", index + 1))?;
         *kinds.entry(kind).or_insert(0) += 1;
     }
-    Ok(kinds)
+    Ok(())
 }
 
 fn check_line(line: &str, face: &dyn Face) -> Result<String, String> {
@@ -30,6 +32,7 @@ fn check_line(line: &str, face: &dyn Face) -> Result<String, String> {
         ["C", "1", sheet, channel] => ask_channel(&bytes(sheet)?, number(channel)?, face),
         ["P", framing, payload] => price(number(framing)?, number(payload)?, face),
         ["B", table] => board(&bytes(table)?, face),
+        ["N", roll, which] => label(&bytes(roll)?, number(which)?, face),
         _ => return Err("a line of no known kind".to_string()),
     };
     for (who, answer) in ["the second opinion", face.name()].iter().zip(answers) {
@@ -85,6 +88,18 @@ fn ask_channel(sheet: &[u8], channel: u64, face: &dyn Face) -> Both {
 fn price(framing: u64, payload: u64, face: &dyn Face) -> Both {
     let first = figure(opinion::price(framing, payload));
     [first, figure(taken_apart(face.price(framing, payload)).map(u128::from))]
+}
+
+fn label(roll: &[u8], number: u64, face: &dyn Face) -> Both {
+    let first = match opinion::ask_label(roll, number) {
+        Ok(stretch) => format!("V {} {}", stretch.start, stretch.end),
+        Err(refusal) => refused(refusal),
+    };
+    let second = match taken_apart(face.label(roll, number)) {
+        Ok(value) => format!("V {} {}", value >> 16, (value >> 16) + (value & 0xffff)),
+        Err(refusal) => refused(refusal),
+    };
+    [first, second]
 }
 
 fn figure(answer: Answer<u128>) -> String {

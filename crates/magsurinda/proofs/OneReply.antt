@@ -17,6 +17,9 @@ use Rattle.magsurinda.proofs.magsurinda_requests.Reads as requests-read
 use Rattle.magsurinda.proofs.magsurinda_ask_wire as ask-wire
 use Rattle.magsurinda.proofs.magsurinda_ask_wire.Kinds as ask-wire-kinds
 use Rattle.magsurinda.proofs.magsurinda_ask_wire.Reads as ask-wire-reads
+use Rattle.magsurinda.proofs.magsurinda_label as label
+use Rattle.magsurinda.proofs.magsurinda_label.Kinds as label-kinds
+use Rattle.magsurinda.proofs.magsurinda_label.Reads as label-reads
 use Rattle.magsurinda.proofs.magsurinda_ask_channel as ask-channel
 use Rattle.magsurinda.proofs.magsurinda_ask_channel.Kinds as ask-channel-kinds
 use Rattle.magsurinda.proofs.magsurinda_ask_channel.Reads as ask-channel-reads
@@ -34,6 +37,12 @@ pub requests-one :
 requests-one κs a r r' e e' p q = p ∙ sym q
 
 module _ (κs : Lfts 1) where
+  pub label-one :
+      (a : ArgsD label.signature κs) (r r' : ResD label.signature κs)
+      (e e' : AtExit (endedOf 1 label-kinds.ps label-kinds.r) κs) →
+      label-reads.Post κs a r e → label-reads.Post κs a r' e' → r ≡ r'
+  label-one a r r' e e' p q = p ∙ sym q
+
   pub ask-wire-one :
       (a : ArgsD ask-wire.signature κs) (r r' : ResD ask-wire.signature κs)
       (e e' : AtExit (endedOf 1 ask-wire-kinds.ps ask-wire-kinds.r) κs) →

@@ -18,3 +18,7 @@ only values = getD values 0 0
 -- or backlog × 2^24 + delay.
 abbrev pub figures : List ℕ → ℕ
 figures values = getD values 0 0 * 2 ^ 24 + getD values 1 0
+
+-- or a label's start × 2^16 + its length.
+abbrev pub stretch : List ℕ → ℕ
+stretch values = getD values 0 0 * 2 ^ 16 + getD values 1 0

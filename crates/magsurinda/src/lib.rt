@@ -6,18 +6,22 @@ ghost use Rattle.rules.specs.Judgement.{judge as judgeOf, buffer};
 ghost use Rattle.rules.specs.Numbers.{requests};
 ghost use Rattle.rules.specs.Price.{askPrice};
 ghost use Rattle.rules.specs.Sheet.{askWire, askChannel};
-ghost use Rattle.magsurinda.specs.Packed.{packing, packed, only, figures};
+ghost use Rattle.rules.specs.Roll.{askLabel};
+ghost use Rattle.magsurinda.specs.Packed.{packing, packed, only, figures, stretch};
 use rules::AskedChannel;
+use rules::AskedLabel;
 use rules::AskedWire;
 use rules::Judging;
 use rules::Pricing;
 
-// One of a refusal's number, of its place, and of a wire's backlog.
+// One of a refusal's number, of its place, of a wire's backlog, and of a label's start.
 const NUMBER: u64 = 1 << 56;
 
 const PLACE: u64 = 1 << 48;
 
 const BACKLOG: u64 = 1 << 24;
+
+const START: u64 = 1 << 16;
 
 fn pack(number: u64, place: u64, value: u64) -> u64
     requires { ⌜ (number < 2 ^ 8) × (place < 2 ^ 8) × (value < 2 ^ 48) ⌝ }
@@ -76,6 +80,17 @@ pub extern "C" fn magsurinda_ask_channel(sheet: &[u8], channel: u64) -> u64
     match answer {
         AskedChannel::Delay(delay) => pack(0, 0, delay),
         AskedChannel::Refused(number, place) => pack(number, place, 0),
+    }
+}
+
+#[no_mangle]
+pub extern "C" fn magsurinda_label(roll: &[u8], number: u64) -> u64
+    ensures { λ r. ⌜ r ≡ packed stretch (askLabel (now (roll .entry)) number) ⌝ }
+{
+    let answer = roll::ask(roll, number);
+    match answer {
+        AskedLabel::Stretch(start, length) => pack(0, 0, start * START + length),
+        AskedLabel::Refused(number, place) => pack(number, place, 0),
     }
 }
 

@@ -6,6 +6,7 @@ pub mod OneReply
 pub mod Price
 pub mod ReadBack
 pub mod Replies
+pub mod Roll
 pub mod Sheet
 pub mod Small
 pub mod Sums

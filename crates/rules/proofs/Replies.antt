@@ -10,7 +10,9 @@ use Rattle.rules.specs.declared.AskedWire.{AskedWire}
 use Rattle.rules.specs.declared.AskedWire.the-variants as wire
 use Rattle.rules.specs.declared.AskedChannel.{AskedChannel}
 use Rattle.rules.specs.declared.AskedChannel.the-variants as channel
-use Rattle.rules.specs.Replies.{pricingReply, readingReply, judgingReply, wireReply, channelReply}
+use Rattle.rules.specs.declared.AskedLabel.{AskedLabel}
+use Rattle.rules.specs.declared.AskedLabel.the-variants as label
+use Rattle.rules.specs.Replies.{pricingReply, readingReply, judgingReply, wireReply, channelReply, labelReply}
 
 pub pricing-one : (a b : Pricing) → pricingReply a ≡ pricingReply b → a ≡ b
 pricing-one (pricing.Price x) (pricing.Price y) e = cc
@@ -41,3 +43,9 @@ channel-one (channel.Delay x) (channel.Delay y) e = cc
 channel-one (channel.Delay x) (channel.Refused n p) e = cc
 channel-one (channel.Refused n p) (channel.Delay x) e = cc
 channel-one (channel.Refused n p) (channel.Refused m q) e = cc
+
+pub label-one : (a b : AskedLabel) → labelReply a ≡ labelReply b → a ≡ b
+label-one (label.Stretch x d) (label.Stretch y f) e = cc
+label-one (label.Stretch x d) (label.Refused n p) e = cc
+label-one (label.Refused n p) (label.Stretch x d) e = cc
+label-one (label.Refused n p) (label.Refused m q) e = cc

@@ -1,4 +1,4 @@
--- Every reply is of small numbers: a refusal's number is 1 to 20 and its place below 128, and what is granted fits.
+-- Every reply is of small numbers: a refusal's number is 1 to 22 and its place below 128, and what is granted fits.
 use mathlib.Core.Bool.{Bool, true, false}
 use mathlib.Core.List.{List, [], _∷_}
 use Prim.Native.Nat.{ℕ, zero, suc, _+_, _^_, _≤_, _<_}
@@ -12,14 +12,16 @@ use Rattle.rules.specs.Channel.{valueTests, hopTests}
 use Rattle.rules.specs.Reading.{headTests, wireTests, recordTests, channelTests, fillingTests, readingTests}
 use Rattle.rules.specs.Price.{askPrice}
 use Rattle.rules.specs.Sheet.{sheetTests, askWire, askChannel}
+use Rattle.rules.specs.Roll.{labels, soundRoll, askLabel}
 use Rattle.rules.specs.Judgement.{loadTest, roomTest, deadlineTest, boundsTests, deadlineTests, judge}
-use Rattle.rules.proofs.Tests.{Gate, through, stops, lt-gate, between-gate}
+use Rattle.rules.proofs.Tests.{Gate, through, stops, test-gate, lt-gate, between-gate}
 use Rattle.rules.proofs.Tables.Laws.{head-gate}
 use Rattle.rules.proofs.Price.{priceMost, price-most}
 use Rattle.rules.proofs.Sheet.Laws.{sheet-longest}
+use Rattle.rules.proofs.Roll.{fits, roll-longest}
 
 abbrev pub Low : ℕ → ℕ → Type 0
-Low number place = (1 ≤ number) × (number ≤ 20) × (place < channelsMost)
+Low number place = (1 ≤ number) × (number ≤ 22) × (place < channelsMost)
 
 pub data Small (P : List ℕ → Type 0) : Reply → Type 0 where
   granted-small : {v : List ℕ} → P v → Small P (granted v)
@@ -93,6 +95,18 @@ channel-small s k =
     fine-sheet EndDelay s _
     (fine-test _ 19 0 (omega arith) _
     (granted-small (field-lt s _ endBits)))
+
+-- ---- asking a roll
+
+abbrev pub LabelStretch : List ℕ → Type 0
+LabelStretch v = (getD v 0 0 < 2 ^ 16) × (getD v 1 0 < 2 ^ 16)
+
+pub label-small : (roll : List ℕ) (number : ℕ) → Small LabelStretch (askLabel roll number)
+unfolding askLabel
+label-small roll number =
+    small-gate (test-gate 21 0 (soundRoll roll)) (fine-test _ 21 0 (omega arith)) _ (λ is.
+    small-gate (lt-gate 22 0 number (labels roll)) (fine-test _ 22 0 (omega arith)) _ (λ l.
+    granted-small (omega (arith, fits roll is number l, roll-longest roll is))))
 
 -- ---- judging
 

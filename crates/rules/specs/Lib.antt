@@ -1,4 +1,4 @@
--- Document 01, with requests Q-2 (prices) and Q-4 (office machines), as definitions, a file for each of its sections.
+-- Document 01, with requests Q-1 (labels), Q-2 (prices) and Q-4 (office machines), as definitions, a file for each of its sections.
 -- What stands here is what a reader must believe. Three are no section of it: Decoded, the code's arrays over those
 -- definitions, and Sound and Fits, what holds of every view that passed tests 1 to 11 and of what a sheet can hold.
 pub mod Words
@@ -16,6 +16,7 @@ pub mod Fits
 pub mod Sheet
 pub mod Judgement
 pub mod Text
+pub mod Roll
 pub mod Machine
 pub mod Cases
 pub mod Incident

@@ -13,6 +13,8 @@ use Rattle.rules.specs.declared.AskedWire.{AskedWire}
 use Rattle.rules.specs.declared.AskedWire.the-variants as wire
 use Rattle.rules.specs.declared.AskedChannel.{AskedChannel}
 use Rattle.rules.specs.declared.AskedChannel.the-variants as channel
+use Rattle.rules.specs.declared.AskedLabel.{AskedLabel}
+use Rattle.rules.specs.declared.AskedLabel.the-variants as label
 
 pub data Reply : Type 0 where
   granted : List ℕ → Reply
@@ -61,3 +63,7 @@ wireReply (wire.Refused number place) = refused number place
 abbrev pub channelReply : AskedChannel → Reply
 channelReply (channel.Delay delay) = granted (delay ∷ [])
 channelReply (channel.Refused number place) = refused number place
+
+abbrev pub labelReply : AskedLabel → Reply
+labelReply (label.Stretch start length) = granted (start ∷ length ∷ [])
+labelReply (label.Refused number place) = refused number place

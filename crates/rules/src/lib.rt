@@ -52,6 +52,12 @@ pub enum AskedChannel {
     Refused(u64, u64),
 }
 
+// Asking a roll for a label: where it starts in the roll, and its length.
+pub enum AskedLabel {
+    Stretch(u64, u64),
+    Refused(u64, u64),
+}
+
 // A table as read: of each wire its rate, propagation and room, of each channel its price, H / period, deadline, hops and
 // route, with the wire of hop i of channel c at 8 * c + i. What stands past its wires, channels and hops is 0.
 pub struct Table {

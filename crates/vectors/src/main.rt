@@ -4,6 +4,7 @@ use console::Found;
 use console::print;
 use console::print_number;
 use rules::AskedChannel;
+use rules::AskedLabel;
 use rules::AskedWire;
 use rules::Judging;
 use rules::Pricing;
@@ -81,16 +82,29 @@ fn channel(sheet: &[u8], index: u64) {
     }
 }
 
+// Where the stretch starts and ends: both are below 65,536, which the reply's contract does not say by itself.
+fn label(roll: &[u8], number: u64) {
+    match roll::ask(roll, number) {
+        AskedLabel::Stretch(start, length) => {
+            print(b"V");
+            print_number(start);
+            print_number(start % 65_536 + length % 65_536);
+        }
+        AskedLabel::Refused(number, place) => print_refusal(number, place),
+    }
+}
+
 fn asked(kind: u8, bytes: &[u8], number: u64) {
     match kind {
         b'J' => judged_into(bytes, number),
         b'W' => wire(bytes, number),
         b'C' => channel(bytes, number),
+        b'N' => label(bytes, number),
         _ => print(b"no such case"),
     }
 }
 
-// KIND 1 BYTES NUMBER
+// BYTES NUMBER, after KIND and but for a label the layout 1.
 fn of_bytes(kind: u8, words: &[u8]) {
     let mut space = [0u8; BYTES_MOST];
     let n = text::bytes(words, &mut space);
@@ -102,6 +116,8 @@ fn case(line: &[u8]) {
     let words = text::rest(line);
     if kind == b'P' {
         price(text::number(words), text::number(text::rest(words)));
+    } else if kind == b'N' {
+        of_bytes(kind, words);
     } else {
         of_bytes(kind, text::rest(words));
     }
