@@ -1,4 +1,6 @@
 // Fields of bits in bytes, most significant bit first.
+#![tactic(auto)]
+
 ghost use Rattle.std.specs.Prelude.{◌≡◌, ◌+◌, ◌*◌, ◌/◌, ◌%◌, ◌^◌, ◌≤◌, ◌<◌, length, replicate};
 ghost use Rattle.bits.specs.Field.{Bytes, field, within, put_field, served, taken_of, number_of, field_fits, wrote_field, widest};
 ghost use Rattle.bits.specs.Around.{Around};

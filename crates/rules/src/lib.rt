@@ -1,4 +1,6 @@
 // Document 01's types: the answers, the rows of framings, and the table with its constants. No behaviour.
+#![tactic(auto)]
+
 ghost use Rattle.std.specs.Prelude.{◌≡◌};
 ghost use Rattle.rules.specs.Numbers.{numbers};
 

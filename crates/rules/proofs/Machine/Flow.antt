@@ -224,7 +224,8 @@ module _
                   ap (before (message t released k) g) e,
                 ));
             later = λ g n.
-                elim n [
+                elim n as (λ n. before (message t released k) g n
+                ≤ before (arrived w) (own k g) (n + (shortest t w k + longer t lag w k))) [
                   | zero ↦ omega arith
                   | suc m ↦
                       (let onto = m + (shortest t v k + longer t lag v k) in
