@@ -14,9 +14,9 @@ pub first_bit : field (0x80 ∷ 0 ∷ []) 0 9 ≡ 256
 unfolding field bit
 first_bit = refl
 
-pub put_middle : put_field (0xff ∷ 0xff ∷ []) 4 8 0x23 ≡ 0xf2 ∷ 0x3f ∷ []
+pub put-middle : put_field (0xff ∷ 0xff ∷ []) 4 8 0x23 ≡ 0xf2 ∷ 0x3f ∷ []
 unfolding put_field put_bit
-put_middle = refl
+put-middle = refl
 
 pub last_bits : within (0 ∷ 0 ∷ []) 4 12 ≡ true
 last_bits = refl

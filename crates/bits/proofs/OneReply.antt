@@ -27,10 +27,10 @@ use Rattle.bits.specs.contracts.read as read
 use Rattle.bits.specs.contracts.write as write
 
 module _ (κs : Lfts 0) where
-  pub wide_one : (a : ArgsD wide.signature κs) (r r' : ResD wide.signature κs)
+  pub wide-one : (a : ArgsD wide.signature κs) (r r' : ResD wide.signature κs)
       (e e' : AtExit (ended_of 0 wide-kinds.ps wide-kinds.r) κs)
       → wide-reads.Post κs a r e → wide-reads.Post κs a r' e' → r ≡ r'
-  wide_one a r r' e e' p q = p ∙ sym q
+  wide-one a r r' e e' p q = p ∙ sym q
 
   pub part-one : (a : ArgsD part.signature κs) (r r' : ResD part.signature κs)
       (e e' : AtExit (ended_of 0 part-kinds.ps part-kinds.r) κs)
@@ -38,10 +38,10 @@ module _ (κs : Lfts 0) where
   part-one a r r' e e' p q = p ∙ sym q
 
 module _ (κs : Lfts 1) where
-  pub fill_one : (a : ArgsD fill.signature κs) (r r' : ResD fill.signature κs)
+  pub fill-one : (a : ArgsD fill.signature κs) (r r' : ResD fill.signature κs)
       (e e' : AtExit (ended_of 1 fill-kinds.ps fill-kinds.r) κs)
       → fill-reads.Post κs a r e → fill-reads.Post κs a r' e' → (r ≡ r') × (e.0.now ≡ e'.0.now)
-  fill_one a r r' e e' p q = (refl, p ∙ sym q)
+  fill-one a r r' e e' p q = (refl, p ∙ sym q)
 
   pub number-one : (a : ArgsD number.signature κs) (r r' : ResD number.signature κs)
       (e e' : AtExit (ended_of 1 number-kinds.ps number-kinds.r) κs)
@@ -53,12 +53,12 @@ module _ (κs : Lfts 1) where
       → holds-reads.Post κs a r e → holds-reads.Post κs a r' e' → r ≡ r'
   holds-one a r r' e e' p q = p ∙ sym q
 
-  pub read_one : (a : ArgsD read.signature κs) (r r' : ResD read.signature κs)
+  pub read-one : (a : ArgsD read.signature κs) (r r' : ResD read.signature κs)
       (e e' : AtExit (ended_of 1 read-kinds.ps read-kinds.r) κs)
       → read-reads.Post κs a r e → read-reads.Post κs a r' e' → r ≡ r'
-  read_one a r r' e e' p q = p ∙ sym q
+  read-one a r r' e e' p q = p ∙ sym q
 
-  pub write_one : (a : ArgsD write.signature κs) (r r' : ResD write.signature κs)
+  pub write-one : (a : ArgsD write.signature κs) (r r' : ResD write.signature κs)
       (e e' : AtExit (ended_of 1 write-kinds.ps write-kinds.r) κs)
       → write-reads.Post κs a r e → write-reads.Post κs a r' e' → (r ≡ r') × (e.0.now ≡ e'.0.now)
-  write_one a r r' e e' p q = (p.0 ∙ sym q.0, p.1 ∙ sym q.1)
+  write-one a r r' e e' p q = (p.0 ∙ sym q.0, p.1 ∙ sym q.1)

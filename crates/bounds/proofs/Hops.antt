@@ -15,7 +15,7 @@ use Rattle.rules.proofs.Bounds.Reach.{hop-below, hop_new, hop-there, hop_others}
 use Rattle.rules.proofs.Bounds.Sizes.{part-most, carried-most}
 use Rattle.bounds.specs.Filed.{filed_most, Filing}
 use Rattle.bounds.specs.Stages.{FiledBelow}
-use Rattle.bounds.proofs.Stretches.{count_most, next_place, next-load, next_fits, filing_same, filed_put, filed_next}
+use Rattle.bounds.proofs.Stretches.{count_most, next_place, next-load, next_fits, filing_same, filed-put, filed_next}
 
 -- the channels below k are filed, and channel k under the wires of its first i hops
 abbrev pub FiledHops : View → ℕ → ℕ → List ℕ → List ℕ → List ℕ → Type 0
@@ -61,6 +61,6 @@ module _ (t : View) (k : ℕ) (list counts loads : List ℕ) where
         (set list (channels_most * w + get_or counts w 0) k) (set counts w (get_or counts w 0 + 1))
         (set loads w (get_or loads w 0 + part t k))
     hop_filed =
-        filed_put (on t) (part t) k list counts loads _ here w most hop-wire new (λ x. has x (take (i + 1) (t.route k)))
+        filed-put (on t) (part t) k list counts loads _ here w most hop-wire new (λ x. has x (take (i + 1) (t.route k)))
         (rw wire (hop-there (t.route k) i short))
         (λ x o. hop_others (t.route k) i short x (λ e. o (e ∙ sym wire)))

@@ -10,11 +10,11 @@ use Rattle.bounds.proofs.bounds.Kinds as bounds-kinds
 use Rattle.bounds.proofs.bounds.Reads as bounds-reads
 
 module _ (κs : Lfts 1) where
-  pub bounds_one :
+  pub bounds-one :
       (a : ArgsD bounds.signature κs) (r r' : ResD bounds.signature κs)
       (e e' : AtExit (ended_of 1 bounds-kinds.ps bounds-kinds.r) κs) →
       bounds-reads.Post κs a r e → bounds-reads.Post κs a r' e' → r ≡ r'
-  bounds_one a r r' e e' p q =
+  bounds-one a r r' e e' p q =
       let answers = reading-one r.answer r'.answer (p.0 ∙ sym q.0) in
       let tables = p.1.0 ∙ sym q.1.0 in
       let figures = p.1.1 ∙ sym q.1.1 in

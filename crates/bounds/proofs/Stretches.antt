@@ -108,10 +108,10 @@ module _ (inside : ℕ → ℕ → Bool) (part : ℕ → ℕ) (c : ℕ) where
             next_place x x-most out,
           )
 
-      pub filed_put : (after : ℕ → Bool) → after x ≡ true → ((w : ℕ) → (w ≡ x → ⊥) → after w ≡ done w)
+      pub filed-put : (after : ℕ → Bool) → after x ≡ true → ((w : ℕ) → (w ≡ x → ⊥) → after w ≡ done w)
           → Filing inside part c after (set list (channels_most * x + get_or counts x 0) c) (set counts x (get_or counts x 0 + 1))
           (set loads x (get_or loads x 0 + part c))
-      filed_put after now same =
+      filed-put after now same =
           let at = channels_most * x + get_or counts x 0 in
           let n : get_or counts x 0 ≡ count (inside x) c = next_place x x-most out in
           let other : (w k : ℕ) → k ≤ c → (w ≡ x → ⊥) → channels_most * w + count (inside w) k ≡ at → ⊥

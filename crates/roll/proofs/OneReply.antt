@@ -13,10 +13,10 @@ use Rattle.roll.proofs.label.Kinds as label-kinds
 use Rattle.roll.proofs.label.Reads as label-reads
 
 module _ (κs : Lfts 1) where
-  pub ask_one : (a : ArgsD ask.signature κs) (r r' : ResD ask.signature κs)
+  pub ask-one : (a : ArgsD ask.signature κs) (r r' : ResD ask.signature κs)
       (e e' : AtExit (ended_of 1 ask-kinds.ps ask-kinds.r) κs)
       → ask-reads.Post κs a r e → ask-reads.Post κs a r' e' → r ≡ r'
-  ask_one a r r' e e' p q = label-one r r' (p ∙ sym q)
+  ask-one a r r' e e' p q = label-one r r' (p ∙ sym q)
 
   -- the bytes, and where they stand
   pub label_same : (a : ArgsD label.signature κs) (r r' : ResD label.signature κs)

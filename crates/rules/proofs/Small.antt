@@ -143,10 +143,10 @@ module _ {P : List ℕ → Type 0} (s : List ℕ) where
   unfolding filling_tests
   fine_filling = fine-test _ 11 0 (omega arith)
 
-fine_bounds : {P : List ℕ → Type 0} (t : View) → t.wires ≤ wires_most → t.channels ≤ channels_most
+fine-bounds : {P : List ℕ → Type 0} (t : View) → t.wires ≤ wires_most → t.channels ≤ channels_most
     → Fine P (λ rest. bounds_tests t (deadline_tests t rest))
 unfolding bounds_tests load_test room_test deadline_test
-fine_bounds t a b rest h =
+fine-bounds t a b rest h =
     fine-each (load_test t) 0 t.wires (λ w l. fine-test _ 12 w (omega arith)) _
     (fine-each (room_test t) 0 t.wires (λ w l. fine-test _ 13 w (omega arith)) _
     (fine-each (deadline_test t) 0 t.channels (λ k l. fine-test _ 14 k (omega arith)) rest h))
@@ -161,6 +161,6 @@ judge-small s lent =
     fine-each (wire_tests s) 0 (wires_of s) (λ w l. fine-wire s w (omega (arith, h.wires_at_most))) _
     (fine-each (channel_tests s) 0 (channels_of s) (λ c l. fine-channel s c (omega (arith, h.channels_at_most))) _
     (fine_filling s _
-    (fine_bounds (view_of s) h.wires_at_most h.channels_at_most _
+    (fine-bounds (view_of s) h.wires_at_most h.channels_at_most _
     (fine-test _ 15 0 (omega arith) _
     (granted-small (sheet-longest (wires_of s) (channels_of s) h.wires_at_most h.channels_at_most)))))))

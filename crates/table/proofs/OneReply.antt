@@ -19,10 +19,10 @@ module _ (κs : Lfts 0) where
   none-one a r r' e e' p q = p ∙ sym q
 
 module _ (κs : Lfts 1) where
-  pub read_one :
+  pub read-one :
       (a : ArgsD read.signature κs) (r r' : ResD read.signature κs) (e e' : AtExit (ended_of 1 read-kinds.ps read-kinds.r) κs)
       → read-reads.Post κs a r e → read-reads.Post κs a r' e' → r ≡ r'
-  read_one a r r' e e' p q =
+  read-one a r r' e e' p q =
       let answers = reading-one r.answer r'.answer (p.0 ∙ sym q.0) in
       let tables = p.1 ∙ sym q.1 in
       λ i. record { answer = answers i; table = tables i }

@@ -12,10 +12,10 @@ use Rattle.words.proofs.put_line.Kinds as put-line-kinds
 use Rattle.words.proofs.put_line.Reads as put-line-reads
 
 module _ (κs : Lfts 2) where
-  pub put_one : (a : ArgsD put.signature κs) (r r' : ResD put.signature κs)
+  pub put-one : (a : ArgsD put.signature κs) (r r' : ResD put.signature κs)
       (e e' : AtExit (ended_of 2 put-kinds.ps put-kinds.r) κs)
       → put_reads.Post κs a r e → put_reads.Post κs a r' e' → (r ≡ r') × (e.0.now ≡ e'.0.now)
-  put_one a r r' e e' p q = (p.0 ∙ sym q.0, p.1 ∙ sym q.1)
+  put-one a r r' e e' p q = (p.0 ∙ sym q.0, p.1 ∙ sym q.1)
 
 module _ (κs : Lfts 3) where
   pub put-line-one : (a : ArgsD put-line.signature κs) (r r' : ResD put-line.signature κs)

@@ -56,15 +56,15 @@ unfolding backlog delay delay_after
 delay-enough t w l = omega (arith, lt-div-mul-add {a = backlog_after t (known t w) w + (t.rate w - 1)} {b = t.rate w} l)
 
 -- every price is at least the smallest frame
-pub prices_least : (t : View) → Sound t → (k : ℕ) → k < t.channels → small_frame ≤ cost t k
-prices_least t sound k l = price-least (t.framing k) (t.payload k) (sound.framing_at_most k l) (sound.payload_at_least k l)
+pub prices-least : (t : View) → Sound t → (k : ℕ) → k < t.channels → small_frame ≤ cost t k
+prices-least t sound k l = price-least (t.framing k) (t.payload k) (sound.framing_at_most k l) (sound.payload_at_least k l)
 
 -- a wire that a route uses has a delay
 pub delay-least : (t : View) → Sound t → (w k : ℕ) → w < t.wires → k < t.channels → on t w k ≡ true → 1 ≤ delay t w
 unfolding delay delay_after backlog_after burst share_of
 delay-least t sound w k lw lk there =
     let share : cost t k * t.hyper ≤ share_of t (known t w) w k = rw there (omega arith) in
-    let dear : small_frame * t.hyper ≤ cost t k * t.hyper = mul-le-mul_right t.hyper (prices_least t sound k lk) in
+    let dear : small_frame * t.hyper ≤ cost t k * t.hyper = mul-le-mul_right t.hyper (prices-least t sound k lk) in
     let some : 1 ≤ burst t (known t w) w / t.hyper
     = (le-div_iff_mul-le sound.hyper_at_least).1 (omega (arith, sum-has (share_of t (known t w) w) t.channels k lk)) in
     (le-div_iff_mul-le (sound.rate_at_least w lw)).1 (omega (arith, some, sound.rate_at_least w lw))

@@ -74,8 +74,8 @@ module _ (t : View) where
   pub deadlines_gate : Gate ((k : ℕ) → k < t.channels → end_to_end t k ≤ t.deadline k) (deadline_tests t)
   deadlines_gate = all-gate (λ k. end_to_end t k ≤ t.deadline k) (deadline_test t) deadline-gate t.channels
 
-  pub bounds_gate : Gate (Bounded t) (λ rest. bounds_tests t (deadline_tests t rest))
-  bounds_gate =
+  pub bounds-gate : Gate (Bounded t) (λ rest. bounds_tests t (deadline_tests t rest))
+  bounds-gate =
       gate_iff (λ h. record { loads = h.0.loads; backlogs = h.0.backlogs; ends = h.1 })
       (λ r. (record { loads = r.loads; backlogs = r.backlogs }, r.ends))
       (gate_then carried_gate deadlines_gate)
@@ -135,7 +135,7 @@ module _ (s : List ℕ) (lent : ℕ) where
       gate_iff
       (λ h. record { passes = h.0; sound = passes-sound s h.0.fields; bounded = h.1.0; fits = h.1.1 })
       (λ r. (r.passes, (r.bounded, r.fits)))
-      (gate_then (reading-gate s) (gate_then (bounds_gate (view_of s)) (le-gate 15 0 _ _)))
+      (gate_then (reading-gate s) (gate_then (bounds-gate (view_of s)) (le-gate 15 0 _ _)))
 
   pub judge-accepted : (len : ℕ) → judge s lent ≡ granted (len ∷ []) → Accepted s lent × (len ≡ length_of (view_of s))
   unfolding judge

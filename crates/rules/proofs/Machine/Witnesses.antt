@@ -376,9 +376,9 @@ over =
     0x00 ∷ 0x00 ∷ 0x59 ∷ 0x02 ∷ 0x02 ∷ 0x00 ∷ 0x00 ∷ 0x09 ∷ 0xc4 ∷ 0x00 ∷ 0x02 ∷ 0x80 ∷ 0x00 ∷ 0x05 ∷ 0x90 ∷ 0x02 ∷ 0x71
     ∷ 0x01 ∷ 0x00 ∷ []
 
-pub one_over : judge over 12 ≡ refused 12 0
+pub one-over : judge over 12 ≡ refused 12 0
 unfolding over definitions
-one_over = refl
+one-over = refl
 
 -- Zero channels: H 1, one wire.
 pub none-listed : List ℕ

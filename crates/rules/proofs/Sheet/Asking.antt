@@ -48,9 +48,9 @@ module _ (n m : ℕ) (b d e : ℕ → ℕ) (fits : Fits n m b d e) where
       tests_pass (sheet_of n m b d e) rest (counted _ two_bytes wires channels) (end_at n m) (ap₂ end_at (sym wires) (sym channels))
       (length-sheet_of n m b d e) (filling-sheet_of n m b d e)
 
-  pub ask_written : Answers (sheet_of n m b d e) n m b d e
+  pub ask-written : Answers (sheet_of n m b d e) n m b d e
   unfolding ask_wire ask_channel test
-  ask_written =
+  ask-written =
       let wires : sheet_wires (sheet_of n m b d e) ≡ n = wires-sheet_of n m b d e fits in
       let channels : sheet_channels (sheet_of n m b d e) ≡ m = channels-sheet_of n m b d e fits in
       record {
@@ -63,9 +63,9 @@ module _ (n m : ℕ) (b d e : ℕ → ℕ) (fits : Fits n m b d e) where
       }
 
   -- with bytes behind it a sheet has not the length that its counts need
-  pub ask_longer : (t : List ℕ) → 1 ≤ length t → Always (sheet_of n m b d e ++ t) (refused 16 0)
+  pub ask-longer : (t : List ℕ) → 1 ≤ length t → Always (sheet_of n m b d e ++ t) (refused 16 0)
   unfolding sheet_wires sheet_channels sheet_length
-  ask_longer t l =
+  ask-longer t l =
       let s : List ℕ = sheet_of n m b d e in
       let two : 2 ≤ length s = two_bytes in
       let more : length (s ++ t) ≡ length s + length t = length-append s t in
@@ -80,20 +80,20 @@ module _ (n m : ℕ) (b d e : ℕ → ℕ) (fits : Fits n m b d e) where
 -- ---- what a refusal left
 
 -- fewer than 2 bytes
-pub ask_short : (s : List ℕ) → length s < 2 → Always s (refused 16 0)
-ask_short s l = always s (refused 16 0) (λ rest. tests_short s rest l)
+pub ask-short : (s : List ℕ) → length s < 2 → Always s (refused 16 0)
+ask-short s l = always s (refused 16 0) (λ rest. tests_short s rest l)
 
 -- the first 7 bits of 255 are 127 wires
-ask_filled : (lent : ℕ) → 2 ≤ lent → Always (replicate lent 255) (refused 17 0)
+ask-filled : (lent : ℕ) → 2 ≤ lent → Always (replicate lent 255) (refused 17 0)
 unfolding bit field sheet_wires sheet_tests test
-ask_filled zero l = absurd (omega arith)
-ask_filled (suc k) l =
+ask-filled zero l = absurd (omega arith)
+ask-filled (suc k) l =
     always (255 ∷ replicate k 255) (refused 17 0) (λ rest.
     rw (le-leb 2 (suc (length (replicate {A = ℕ} k 255))) (omega (arith, length-replicate {A = ℕ} k 255))))
 
 pub no-sheet : (lent : ℕ) → NoSheet lent (replicate lent 255)
 no-sheet lent =
-    (λ l. ask_short (replicate lent 255) (rw length-replicate (omega arith)), λ l. ask_filled lent (omega arith))
+    (λ l. ask-short (replicate lent 255) (rw length-replicate (omega arith)), λ l. ask-filled lent (omega arith))
 
 -- ---- the lent buffer after a judgement
 
@@ -124,12 +124,12 @@ module _ (t : View) (lent : ℕ) where
 
   pub ask-granted : (v : List ℕ) → FitsSheet t → AnswersOf (take (length_of t) (leaves (granted v) t lent)) t
   unfolding sheet
-  ask-granted v fits = rw (take-granted v) (ask_written t.wires t.channels (backlog t) (delay t) (end_to_end t) fits)
+  ask-granted v fits = rw (take-granted v) (ask-written t.wires t.channels (backlog t) (delay t) (end_to_end t) fits)
 
   pub ask-whole : (v : List ℕ) → FitsSheet t → length_of t < lent → Always (leaves (granted v) t lent) (refused 16 0)
   unfolding leaves sheet
   ask-whole v fits l =
-      ask_longer t.wires t.channels (backlog t) (delay t) (end_to_end t) fits (replicate (lent - length_of t) 255)
+      ask-longer t.wires t.channels (backlog t) (delay t) (end_to_end t) fits (replicate (lent - length_of t) 255)
       (rw length-replicate (omega arith))
 
   pub leaves-refused : (number place : ℕ) → leaves (refused number place) t lent ≡ replicate lent 255

@@ -13,17 +13,17 @@ use Rattle.rules.specs.Numbers.{wires_bits, channels_bits, backlog_bits, delay_b
 use Rattle.rules.specs.Sheet.{figures_at, end_at, sheet_length, with_head, with_wires, with_channels, sheet_of}
 
 -- two fields, the second where the first ends
-two_put : (s : List ℕ) (at v w u v' w' : ℕ) → u ≡ at + w → w ≤ widest → w' ≤ widest → u + w' ≤ 8 * length s
+two-put : (s : List ℕ) (at v w u v' w' : ℕ) → u ≡ at + w → w ≤ widest → w' ≤ widest → u + w' ≤ 8 * length s
     → v < 2 ^ w → v' < 2 ^ w'
     → wrote_field (wrote_field s at w v) u w' v' ≡ put_field (put_field s at w v) u w' v'
-two_put s at v w u v' w' e a b h l l' =
+two-put s at v w u v' w' e a b h l l' =
     ap (λ (t : List ℕ). wrote_field t u w' v') (wrote_field-put s at w a (omega arith) v l)
     ∙ wrote_field-put (put_field s at w v) u w' b (omega (arith, length-put_field s at w v)) v' l'
 
-pub head_put : (s : List ℕ) (n m : ℕ) → n < 2 ^ wires_bits → m < 2 ^ channels_bits → figures_at 0 ≤ 8 * length s
+pub head-put : (s : List ℕ) (n m : ℕ) → n < 2 ^ wires_bits → m < 2 ^ channels_bits → figures_at 0 ≤ 8 * length s
     → wrote_field (wrote_field s 0 wires_bits n) wires_bits channels_bits m ≡ with_head n m s
 unfolding figures_at with_head
-head_put s n m a b h = two_put s 0 n wires_bits wires_bits m channels_bits refl (omega arith) (omega arith) h a b
+head-put s n m a b h = two-put s 0 n wires_bits wires_bits m channels_bits refl (omega arith) (omega arith) h a b
 
 -- t is s with the items before in; at is where the next one goes
 module _ (s t : List ℕ) (at : ℕ) where
@@ -32,7 +32,7 @@ module _ (s t : List ℕ) (at : ℕ) where
       → wrote_field (wrote_field t at backlog_bits (b w)) (at + backlog_bits) delay_bits (d w) ≡ with_wires b d (w + 1) s
   unfolding figures_at with_wires
   wire-put b d w e place h lb ld =
-      two_put t at (b w) backlog_bits (at + backlog_bits) (d w) delay_bits refl (omega arith) (omega arith) (omega arith) lb ld
+      two-put t at (b w) backlog_bits (at + backlog_bits) (d w) delay_bits refl (omega arith) (omega arith) (omega arith) lb ld
       ∙ rw (e, place, add-one w)
 
   pub channel-put : (n : ℕ) (e : ℕ → ℕ) (k : ℕ) → t ≡ with_channels n e k s → at ≡ end_at n k → end_at n (k + 1) ≤ 8 * length t

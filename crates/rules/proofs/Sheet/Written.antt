@@ -22,7 +22,7 @@ use Rattle.rules.specs.Judgement.{length_of, sheet, leaves}
 use Rattle.rules.specs.Incident.{Answers}
 use Rattle.rules.proofs.Tables.Columns.{column-at}
 use Rattle.rules.proofs.Sheet.Laws.{length-sheet_of}
-use Rattle.rules.proofs.Sheet.Asking.{FitsSheet, ask_written}
+use Rattle.rules.proofs.Sheet.Asking.{FitsSheet, ask-written}
 use Rattle.rules.proofs.Sheet.Fitting.{FitsFigures, and_true, fits-true, true-fits}
 
 abbrev pub Same : ℕ → (ℕ → ℕ) → (ℕ → ℕ) → Type 0
@@ -108,4 +108,4 @@ wrote-asked n m f lent e =
     let d : ℕ → ℕ = entries f.delay in
     let x : ℕ → ℕ = entries f.end in
     let held : FitsFigures n m f = true-fits n m f (and_true _ _ e).0 in
-    rw (e, take_at (sheet_of n m b d x) _ (sheet_length n m) (length-sheet_of n m b d x)) (ask_written n m b d x held)
+    rw (e, take_at (sheet_of n m b d x) _ (sheet_length n m) (length-sheet_of n m b d x)) (ask-written n m b d x held)

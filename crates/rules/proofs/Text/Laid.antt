@@ -95,8 +95,8 @@ place-most lent at w =
       | no o ↦ omega (arith, cut-above (at + length w) (suc lent) (omega arith))
     ]
 
-pub put_nothing : (b : List ℕ) (at : ℕ) → at ≤ suc (length b) → Put b at [] at b
-put_nothing b at h =
+pub put-nothing : (b : List ℕ) (at : ℕ) → at ≤ suc (length b) → Put b at [] at b
+put-nothing b at h =
     record { place = sym (cut_below (at + 0) (suc (length b)) (omega (arith, h)) ∙ omega arith); bytes = sym (laid-nothing b at) }
 
 pub put_then : {b left left' : List ℕ} {at after after' : ℕ} {v w : List ℕ}

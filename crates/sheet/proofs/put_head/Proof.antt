@@ -2,7 +2,7 @@
 -- Assumes nothing.
 use mathlib.Core.Path.{◌∙◌}
 use borrow.Author.Rules.{rules}
-use Rattle.rules.proofs.Sheet.Putting.{head_put}
+use Rattle.rules.proofs.Sheet.Putting.{head-put}
 use Rattle.sheet.proofs.put_head.Statement.{statement}
 use Rattle.sheet.proofs.put_head.Tie as tie
 
@@ -22,7 +22,7 @@ returns c =
     let st = first.before.before.before in
     let a = st.args in
     second.write2.ensures.1
-    ∙ rw first.write.ensures.1 (head_put a.sheet.now a.wires a.channels st.requires.0 st.requires.1 st.requires.2)
+    ∙ rw first.write.ensures.1 (head-put a.sheet.now a.wires a.channels st.requires.0 st.requires.1 st.requires.2)
 
 pub put-head-spec : {M : Type 1} → statement M
 put-head-spec = tie.close (tie.spec write-requires write-requires-2 same_length returns)

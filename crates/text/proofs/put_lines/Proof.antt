@@ -7,7 +7,7 @@ use lib.ListN.{length}
 use borrow.Author.Rules.{rules}
 use Rattle.rules.specs.Words.{entries}
 use Rattle.rules.specs.Text.{line, lines, Put}
-use Rattle.rules.proofs.Text.Laid.{put_nothing, put_then, put_as, lines_more, lines_none}
+use Rattle.rules.proofs.Text.Laid.{put-nothing, put_then, put_as, lines_more, lines_none}
 use Rattle.text.proofs.put_lines.Statement.{statement}
 use Rattle.text.proofs.put_lines.Tie as tie
 
@@ -25,7 +25,7 @@ loop-holds c =
       omega arith,
       refl,
       put_as (sym (lines_none a.word.now (entries a.first.now) (entries a.second.now)))
-          (put_nothing a.lent.now a.at start.requires.0),
+          (put-nothing a.lent.now a.at start.requires.0),
     )
 
 mul-t12 : tie.Need-overflow-mul-t12 invariant-loop decreases-loop

@@ -7,7 +7,7 @@ use lib.ListN.{length, get_or, take}
 use lib.Seq.{take-suc, take-length}
 use borrow.Author.Rules.{rules}
 use Rattle.rules.specs.Text.{spaced, Put}
-use Rattle.rules.proofs.Text.Laid.{put_nothing, put_then, put_as, spaced-append}
+use Rattle.rules.proofs.Text.Laid.{put-nothing, put_then, put_as, spaced-append}
 use Rattle.words.proofs.put_numbers.Statement.{statement}
 use Rattle.words.proofs.put_numbers.Tie as tie
 
@@ -25,7 +25,7 @@ loop-holds : tie.Need-loop-init invariant-loop decreases-loop
 unfolding spaced
 loop-holds c =
     let a = c.before.before.args in
-    (refl, omega arith, refl, put_nothing a.lent.now a.at c.before.before.requires)
+    (refl, omega arith, refl, put-nothing a.lent.now a.at c.before.before.requires)
 
 mul-put-number : tie.Need-overflow-mul-put-number invariant-loop decreases-loop
 mul-put-number c = search rules
