@@ -9,7 +9,7 @@ ghost use Rattle.bits.specs.Around.{Around};
 pub const WIDEST: usize = 57;
 
 // What reading a field finds: its number, or nothing where the bits go past the end or the width is not served.
-#[derive(Drop)]
+#[derive(Clone, Copy)]
 pub enum Taken {
     Number(u64),
     Nothing,

@@ -1,4 +1,6 @@
 // Judges the table on standard input and writes document 01's text: one read of the input, one write of the text.
+#![tactic(auto)]
+
 use console::Input;
 use rules::{Table, Written};
 

@@ -1,5 +1,7 @@
 // The bounds of a table: tests 12 and 13 after 1 to 11, and the figures of every wire and channel. The slice `table` holds the
 // bytes that `t` was read from, for the contracts of the private functions: nothing reads them there.
+#![tactic(auto)]
+
 mod filing;
 mod walking;
 

@@ -4,7 +4,7 @@ ghost use Rattle.rules.specs.Words.{up, only};
 ghost use Rattle.rules.specs.Replies.{reading_reply, Answered};
 ghost use Rattle.rules.specs.Price.{full_frame};
 ghost use Rattle.rules.specs.Table.{view_of};
-ghost use Rattle.rules.specs.Bounds.{known, burst as burstOf};
+ghost use Rattle.rules.specs.Bounds.{known, burst as burst_of};
 ghost use Rattle.rules.specs.Judgement.{room_tests};
 ghost use Rattle.rules.specs.Decoded.{figures_left, no_figures};
 ghost use Rattle.bounds.specs.Stages.{OnWire, Gathers, Spare, RaisedBy, ToWalk};
@@ -59,7 +59,7 @@ fn burst(
 ) -> u64
     requires on_wire { OnWire table.now w count list.now }
     requires gathers { Gathers table.now w hyper price.now times.now jitter.now }
-    ensures { result ≡ burstOf (view_of table.now) (known (view_of table.now) w) w }
+    ensures { result ≡ burst_of (view_of table.now) (known (view_of table.now) w) w }
 {
     let first = Table::CHANNELS_MOST * w;
     let mut sum: u64 = 0;

@@ -1,5 +1,7 @@
 // Standard input, whole or line by line, through a buffer that the caller lends; and words and numbers on standard output.
 // No contract can say which bytes are read or written.
+#![tactic(auto)]
+
 ghost use Rattle.std.specs.Prelude.{ℕ, ◌+◌, ◌<◌, ◌≤◌, ◌≡◌, get_or, length};
 ghost use Rattle.console.specs.Reading.{LineIn, Within};
 

@@ -1,8 +1,10 @@
 // The price of a message, and the rates of wires.
+#![tactic(auto)]
+
 ghost use Rattle.std.specs.Prelude.{◌≡◌, ◌≤◌, ◌<◌, get_or};
 ghost use Rattle.rules.specs.Numbers.{rates, payload_most};
 ghost use Rattle.rules.specs.Replies.{pricing_reply};
-ghost use Rattle.rules.specs.Price.{row_of, last_bytes, price as priceOf, ask_price};
+ghost use Rattle.rules.specs.Price.{row_of, last_bytes, price as price_of, ask_price};
 
 use rules::{Pricing, Row, Table};
 
@@ -53,7 +55,7 @@ fn row_of(framing: u64) -> Row
 // The price of a payload in a framing, both in their ranges.
 fn priced(framing: u64, payload: u64) -> u64
     requires { (framing < 2) × (payload ≤ payload_most) }
-    ensures { result ≡ priceOf framing payload }
+    ensures { result ≡ price_of framing payload }
 {
     let row = row_of(framing);
     payload / row.most * Row::FULL_FRAME + last_bytes(row, payload % row.most)

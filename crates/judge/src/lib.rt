@@ -1,4 +1,6 @@
 // Judging a table: its bounds, 14, 15, and the sheet.
+#![tactic(auto)]
+
 ghost use Rattle.std.specs.Prelude.{◌≡◌, length, replicate};
 ghost use Rattle.rules.specs.Replies.{judging_reply, Answered};
 ghost use Rattle.rules.specs.Table.{view_of};

@@ -1,6 +1,8 @@
 // The C face: each reply in 64 bits.
+#![tactic(auto)]
+
 ghost use Rattle.std.specs.Prelude.{◌≡◌, ◌+◌, ◌*◌, ◌^◌, ◌<◌, length};
-ghost use Rattle.rules.specs.Judgement.{judge as judgeOf, buffer};
+ghost use Rattle.rules.specs.Judgement.{judge as judge_of, buffer};
 ghost use Rattle.rules.specs.Numbers.{requests};
 ghost use Rattle.rules.specs.Price.{ask_price};
 ghost use Rattle.rules.specs.Sheet.{ask_wire, ask_channel};
@@ -35,7 +37,7 @@ fn pack_figures(backlog: u64, delay: u64) -> u64
 
 #[unsafe(no_mangle)]
 pub extern "C" fn magsurinda_judge(table: &[u8], sheet: &mut [u8]) -> u64
-    ensures value { result ≡ packed only (judgeOf table.now (length sheet.old)) }
+    ensures value { result ≡ packed only (judge_of table.now (length sheet.old)) }
     ensures sheet_after { sheet.new ≡ buffer table.now (length sheet.old) }
 {
     let answer = judge::judge(table, sheet);

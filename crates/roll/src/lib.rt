@@ -1,4 +1,6 @@
 // The label roll: the whole roll is tested, then a channel's label is handed back as a part of the caller's own roll.
+#![tactic(auto)]
+
 ghost use Rattle.std.specs.Prelude.{◌≡◌, ◌+◌, ◌≤◌, length, get_or};
 ghost use Rattle.rules.specs.Words.{between, every, only};
 ghost use Rattle.rules.specs.Numbers.{channels_most};

@@ -1,20 +1,19 @@
 -- Laws of the price, over any fair row: the frames of a message sum to its price, each is smallest to full, and the price
 -- does not fall when the payload grows.
-use mathlib.Core.Path.{◌≡◌, refl, ap, sym, ◌∙◌}
-use mathlib.Core.Bool.{Bool, true, false, cond}
+use mathlib.Core.Path.{◌≡◌, refl, ap, sym}
 use mathlib.Core.List.{List, [], ◌∷◌, ◌++◌}
 use mathlib.Core.Logic.{◌⊎◌, inl, inr}
 use Prim.Native.Nat.{ℕ, zero, suc, ◌+◌, ◌*◌, ◌/◌, ◌%◌, ◌≤◌, ◌<◌}
 use native.Mathlib.Omega.{arith}
 use native.Mathlib.Decide.{dec_le, dec_lt}
 use native.Mathlib.Nat.{mod-lt, div-add-mod', div-mul-le_self, le-div_iff_mul-le, le_trans, zero-mul, suc-mul}
-use lib.ListN.{length, get_or, replicate}
-use lib.Dec.{leb, eqb, eqb-suc-zero}
+use lib.ListN.{replicate}
+use lib.Dec.{eqb-suc-zero}
 use borrow.Author.Tests.{eq-eqb, ne_eqb, le-leb, lt-leb, lt-ltb, le-ltb}
 use Rattle.rules.specs.declared.Row.{Row}
 use Rattle.rules.specs.Words.{total}
 use Rattle.rules.specs.Numbers.{payload_most}
-use Rattle.rules.specs.Replies.{Reply, granted, refused, test}
+use Rattle.rules.specs.Replies.{granted, refused, test}
 use Rattle.rules.specs.Price.{row_of, full_frame, small_frame, last_bytes, price, last_frame, frames, ask_price}
 use Rattle.rules.proofs.Sums.{total-append}
 

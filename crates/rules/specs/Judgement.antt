@@ -1,5 +1,5 @@
 -- The judgement: tests 12 to 15 after 1 to 11, the reply, and the lent buffer afterwards.
-use Rattle.std.specs.Prelude.{List, [], ◌∷◌, ◌++◌, ℕ, ◌-◌, ◌*◌, length, replicate, leb}
+use Rattle.std.specs.Prelude.{List, [], ◌∷◌, ◌++◌, ℕ, ◌-◌, ◌*◌, replicate, leb}
 use Rattle.rules.specs.Replies.{Reply, granted, refused, test, each}
 use Rattle.rules.specs.Table.{View, view_of}
 use Rattle.rules.specs.Reading.{reading_tests}

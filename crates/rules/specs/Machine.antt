@@ -1,5 +1,5 @@
 -- The slot machine: as a relation, and as a step function with which a run can be computed.
-use Rattle.std.specs.Prelude.{◌≡◌, Bool, cond, ◌&&◌, List, [], ◌∷◌, ◌++◌, map, ℕ, zero, suc, ◌+◌, ◌-◌, ◌≤◌, ◌<◌, get_or, replicate, leb, eqb}
+use Rattle.std.specs.Prelude.{◌≡◌, cond, List, [], ◌∷◌, ◌++◌, map, ℕ, zero, suc, ◌+◌, ◌-◌, ◌≤◌, ◌<◌, get_or, replicate, leb, eqb}
 use Rattle.rules.specs.Words.{total, listed, gathered, cut}
 use Rattle.rules.specs.Price.{frames}
 use Rattle.rules.specs.Table.{View, Source, nowhere, release, wire, source, last_wire}

@@ -1,9 +1,9 @@
 -- The price of a message.
-use Rattle.std.specs.Prelude.{Bool, cond, List, [], ◌∷◌, ◌++◌, ℕ, ◌+◌, ◌*◌, ◌/◌, ◌%◌, length, get_or, replicate, leb, ltb, eqb}
+use Rattle.std.specs.Prelude.{cond, List, [], ◌∷◌, ◌++◌, ℕ, ◌+◌, ◌*◌, ◌/◌, ◌%◌, length, get_or, replicate, leb, ltb, eqb}
 use Rattle.rules.specs.declared.Row.{Row}
 use Rattle.rules.specs.Words.{between}
 use Rattle.rules.specs.Numbers.{payload_most}
-use Rattle.rules.specs.Replies.{Reply, granted, refused, test}
+use Rattle.rules.specs.Replies.{Reply, granted, test}
 
 -- The table of framings has one row each: plain 1,492 data, 50 overhead, 38 least data; with IP and UDP 1,464, 78, 10. These are
 -- request Q-2's: document 01's 46 and 74, and the 4 bytes of the priority tag; makers pad before it is put in, so the least

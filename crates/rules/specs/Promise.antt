@@ -1,7 +1,7 @@
 -- What a green square promises: demand 3, over the definitions and nothing else.
 use Rattle.std.specs.Prelude.{◌≡◌, List, [], ◌∷◌, ◌++◌, ℕ, suc, ◌+◌, ◌≤◌, ◌<◌, take}
 use Rattle.rules.specs.Words.{gathered}
-use Rattle.rules.specs.Replies.{Reply, granted}
+use Rattle.rules.specs.Replies.{granted}
 use Rattle.rules.specs.Table.{view_of}
 use Rattle.rules.specs.Sheet.{ask_wire, ask_channel}
 use Rattle.rules.specs.Judgement.{judge, buffer}

@@ -5,7 +5,7 @@ ghost use Rattle.std.specs.Prelude.{◌≡◌};
 ghost use Rattle.rules.specs.Numbers.{numbers};
 
 // One row of the table of framings: the most data that a frame holds, its overhead, the least data.
-#[derive(Drop)]
+#[derive(Clone, Copy)]
 pub struct Row {
     pub most: u64,
     pub overhead: u64,
@@ -20,49 +20,49 @@ impl Row {
 }
 
 // Asking a price: the price in bytes. A refusal holds its number and place in every answer.
-#[derive(Drop)]
+#[derive(Clone, Copy)]
 pub enum Pricing {
     Price(u64),
     Refused(u64, u64),
 }
 
 // Reading a table.
-#[derive(Drop)]
+#[derive(Clone, Copy)]
 pub enum Reading {
     Read,
     Refused(u64, u64),
 }
 
 // Judging a table: the sheet's length.
-#[derive(Drop)]
+#[derive(Clone, Copy)]
 pub enum Judging {
     Accepted(u64),
     Refused(u64, u64),
 }
 
 // Writing a sheet: its length; nothing where a count or a figure does not fit the sheet, or the sheet the lent buffer.
-#[derive(Drop)]
+#[derive(Clone, Copy)]
 pub enum Written {
     Length(u64),
     Nothing,
 }
 
 // Asking a sheet for a wire: backlog and delay.
-#[derive(Drop)]
+#[derive(Clone, Copy)]
 pub enum AskedWire {
     Figures(u64, u64),
     Refused(u64, u64),
 }
 
 // Asking a sheet for a channel: end-to-end delay.
-#[derive(Drop)]
+#[derive(Clone, Copy)]
 pub enum AskedChannel {
     Delay(u64),
     Refused(u64, u64),
 }
 
 // Asking a roll for a label: where it starts in the roll, and its length.
-#[derive(Drop)]
+#[derive(Clone, Copy)]
 pub enum AskedLabel {
     Stretch(u64, u64),
     Refused(u64, u64),
@@ -70,7 +70,7 @@ pub enum AskedLabel {
 
 // A table as read: of each wire its rate, propagation and room, of each channel its price, H / period, deadline, hops and
 // route, with the wire of hop i of channel c at 8 * c + i. What stands past its wires, channels and hops is 0.
-#[derive(Drop)]
+#[derive(Clone, Copy)]
 pub struct Table {
     pub hyper: u64,
     pub wires: usize,
@@ -86,14 +86,14 @@ pub struct Table {
 }
 
 // What reading a table leaves: the answer, and the table, which is all 0 on a refusal.
-#[derive(Drop)]
+#[derive(Clone, Copy)]
 pub struct TableRead {
     pub answer: Reading,
     pub table: Table,
 }
 
 // Of each wire its backlog and delay, of each channel its end-to-end delay, and 0 past them.
-#[derive(Drop)]
+#[derive(Clone, Copy)]
 pub struct Figures {
     pub backlog: [u64; Table::WIRES_MOST],
     pub delay: [u64; Table::WIRES_MOST],
@@ -101,7 +101,7 @@ pub struct Figures {
 }
 
 // What working out the bounds leaves: the answer to tests 1 to 13, the table and its figures, which are all 0 on a refusal.
-#[derive(Drop)]
+#[derive(Clone, Copy)]
 pub struct Bounded {
     pub answer: Reading,
     pub table: Table,

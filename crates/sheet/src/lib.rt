@@ -1,4 +1,6 @@
 // The sheet: writing it into a lent buffer, and asking any byte string for a wire or a channel of the sheet that it may be.
+#![tactic(auto)]
+
 ghost use Rattle.std.specs.Prelude.{◌≡◌, ◌&&◌, ℕ, ◌*◌, ◌^◌, ◌≤◌, ◌<◌, length, eqb};
 ghost use Rattle.rules.specs.Numbers.{wires_most, channels_most, wires_bits, channels_bits, backlog_bits, delay_bits, end_bits};
 ghost use Rattle.rules.specs.Words.{between, entries};

@@ -1,8 +1,10 @@
 // Reading a table: tests 1 to 11 in one pass, each field read once.
+#![tactic(auto)]
+
 ghost use Rattle.std.specs.Prelude.{◌≡◌, ◌*◌, ◌≤◌, ◌<◌, length};
 ghost use Rattle.rules.specs.Numbers.{wires_most, channels_most, payload_most, table_longest};
 ghost use Rattle.rules.specs.Replies.{Reply, reading_reply, each, after, IfRead};
-ghost use Rattle.rules.specs.Price.{price as priceOf};
+ghost use Rattle.rules.specs.Price.{price as price_of};
 ghost use Rattle.rules.specs.Table.{view_of, hyper_of, wires_of, end_of};
 ghost use Rattle.rules.specs.Reading.{head_tests, wire_tests, channel_tests, filling_tests, reading};
 ghost use Rattle.rules.specs.Decoded.{table_left, no_table};
@@ -52,7 +54,7 @@ struct Channels {
 
 fn price_of(framing: u64, payload: u64) -> u64
     requires { (framing < 2) × (1 ≤ payload) × (payload ≤ payload_most) }
-    ensures { result ≡ priceOf framing payload }
+    ensures { result ≡ price_of framing payload }
 {
     match framing::price(framing, payload) {
         Pricing::Price(p) => p,

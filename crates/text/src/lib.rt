@@ -1,4 +1,6 @@
 // The text of a table's judgement, as document 01 has it printed.
+#![tactic(auto)]
+
 ghost use Rattle.std.specs.Prelude.{suc, ◌≤◌, ◌≡◌, [], length};
 ghost use Rattle.rules.specs.Words.{entries};
 ghost use Rattle.rules.specs.Replies.{granted};

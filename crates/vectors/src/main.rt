@@ -1,5 +1,7 @@
 // Runs vectors over the proved crates. Of each line of standard input, a case, it writes the reply as it stands after the
 // line's `->`, which it never reads.
+#![tactic(auto)]
+
 use console::{Found, print, print_number};
 use rules::{AskedChannel, AskedLabel, AskedWire, Judging, Pricing};
 

@@ -1,5 +1,7 @@
 // Words and numbers, laid into a lent buffer from a place on; the reply is the place after them. Past the end of the buffer there
 // is one place: it says that something did not fit.
+#![tactic(auto)]
+
 ghost use Rattle.std.specs.Prelude.{suc, ◌+◌, ◌≤◌, ◌≡◌, [], ◌∷◌, length, take, drop};
 ghost use Rattle.rules.specs.Text.{digits_most, decimal, spaced, line, laid, place_after};
 

@@ -1,4 +1,4 @@
-use Rattle.std.proofs.Common.{ℕ, ◌≡◌, sym, ap, arith}
+use Rattle.std.proofs.Common.{ℕ, ◌≡◌, ap, arith}
 use Rattle.bits.specs.Field.{field}
 use Rattle.bits.proofs.found.Goals as goal
 

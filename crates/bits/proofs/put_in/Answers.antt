@@ -55,4 +55,4 @@ returns c =
     let a = c.args in
     c.scatter.ensures
     ∙ done a.s.now a.first a.count a.at a.width c.behind-behind.result c.gather-n.result c.trim-old.result a.number
-        (omega arith) (omega arith) (omega arith) c.gather-n.ensures c.trim-old.ensures (omega arith)
+    (omega arith) (omega arith) (omega arith) c.gather-n.ensures c.trim-old.ensures (omega arith)

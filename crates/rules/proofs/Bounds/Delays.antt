@@ -9,7 +9,7 @@ use native.Mathlib.Decide.{ℕ_discrete}
 use native.Mathlib.Omega.{arith}
 use lib.ListN.{length, length-append, get_or-append}
 use lib.Seq.{get_or-append-add}
-use Rattle.rules.specs.Words.{sum, up}
+use Rattle.rules.specs.Words.{up}
 use Rattle.rules.specs.Price.{small_frame}
 use Rattle.rules.specs.Table.{View}
 use Rattle.rules.specs.Office.{first, K}

@@ -15,7 +15,7 @@ use Rattle.rules.specs.Bounds.{along}
 use Rattle.rules.specs.Machine.{Frame, Releases, message, of_channel, born_in, Gone, reaching, due_from, due, AnyOrder}
 use Rattle.rules.specs.Sound.{Climbs}
 use Rattle.rules.proofs.Sums.{ascend, sum_same, sum-swap, sum-alone, sum-none, sum-grows}
-use Rattle.rules.proofs.Sums.{total-append, total-same, total-none, total-map, total-gathered}
+use Rattle.rules.proofs.Sums.{total-same, total-none, total-map, total-gathered}
 use Rattle.rules.proofs.Machine.Orders.{any_order-total}
 use Rattle.rules.proofs.Bounds.Routes.{Follows, Begins, follows, climbs-below}
 use Rattle.rules.proofs.Machine.Server.{before, Passes}

@@ -1,13 +1,12 @@
 -- The step function gives an allowed run, for any releases, any order and any choice of holds.
 use mathlib.Core.Path.{◌≡◌, refl, ap, sym, ◌∙◌}
 use mathlib.Core.Bool.{cond}
-use mathlib.Core.List.{List, [], ◌∷◌, ◌++◌, map}
-use Prim.Native.Nat.{ℕ, zero, suc, ◌+◌, ◌-◌, ◌≤◌, ◌<◌}
+use mathlib.Core.List.{List, [], ◌∷◌, map}
+use Prim.Native.Nat.{ℕ, zero, suc, ◌-◌, ◌≤◌, ◌<◌}
 use native.Mathlib.Decide.{dec_le, ℕ_discrete}
 use native.Mathlib.Omega.{arith}
 use lib.Dec.{leb}
-use lib.ListN.{length, get_or, length-append, get_or-replicate, get_or-append}
-use lib.Seq.{get_or-append-add}
+use lib.ListN.{get_or, get_or-replicate}
 use borrow.Author.Tests.{le-leb, lt-leb}
 use Rattle.rules.specs.Words.{listed, gathered, cut}
 use Rattle.rules.specs.Table.{View, Source, nowhere, release, wire, source}
@@ -15,7 +14,7 @@ use Rattle.rules.specs.Office.{K}
 use Rattle.rules.specs.Machine.{Frame, Waiting, whole, Releases, Gone, of_channel, reaching, due_from, due}
 use Rattle.rules.specs.Machine.{AnyOrder, sent, kept, joined, Holding, sending, Run, Allowed, nobody, Order}
 use Rattle.rules.specs.Machine.{Choice, queue_in, held_in, gone_in, arrivals, holding, step, played}
-use Rattle.rules.proofs.Tables.Columns.{length-listed, get_or-listed}
+use Rattle.rules.proofs.Tables.Columns.{get_or-listed}
 
 pub gathered-same : {A : Type 0} (f g : ℕ → List A) (n : ℕ) → ((i : ℕ) → i < n → f i ≡ g i) → gathered f n ≡ gathered g n
 unfolding gathered

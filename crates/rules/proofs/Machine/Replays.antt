@@ -2,13 +2,13 @@
 -- same, slot by slot and wire by wire, and their delivery the same end-to-end delays. Made by tests/opinion/replays.
 use mathlib.Core.Path.{◌≡◌, refl}
 use mathlib.Core.Bool.{Bool, true, false, cond, ◌&&◌, ◌||◌}
-use mathlib.Core.List.{List, [], ◌∷◌, ◌++◌}
+use mathlib.Core.List.{List, [], ◌∷◌}
 use Prim.Native.Nat.{ℕ, zero, suc, ◌+◌, ◌-◌}
 use lib.ListN.{length, get_or}
 use lib.Dec.{ltb, eqb}
 use Rattle.rules.specs.Words.{total, listed, only}
 use Rattle.rules.specs.Table.{View, view_of}
-use Rattle.rules.specs.Machine.{Frame, Waiting, Releases, message, Gone, delivered, Order, Choice, State}
+use Rattle.rules.specs.Machine.{Frame, Releases, message, Gone, delivered, Order, Choice, State}
 use Rattle.rules.specs.Machine.{queue_in, held_in, gone_in, arrivals, joined, bytes, step, played}
 use Rattle.rules.proofs.Machine.Orders.{same}
 use Rattle.rules.proofs.Machine.Witnesses.{definitions}

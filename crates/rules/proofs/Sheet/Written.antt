@@ -16,7 +16,6 @@ use Rattle.rules.specs.Replies.{granted}
 use Rattle.rules.specs.Table.{View}
 use Rattle.rules.specs.Decoded.{figures_of}
 use Rattle.rules.specs.Bounds.{backlog, delay, end_to_end}
-use Rattle.rules.specs.Fits.{Fits}
 use Rattle.rules.specs.Sheet.{fits, sheet_length, with_wires, with_channels, sheet_of, writes, written_of, wrote_sheet}
 use Rattle.rules.specs.Judgement.{length_of, sheet, leaves}
 use Rattle.rules.specs.Incident.{Answers}

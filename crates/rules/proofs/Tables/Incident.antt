@@ -16,8 +16,8 @@ use Rattle.rules.specs.Words.{up, between}
 use Rattle.rules.specs.Numbers.{rates, hyper_bits, hyper_most, wires_bits, wires_most, channels_bits, channels_most}
 use Rattle.rules.specs.Numbers.{head_bits, rate_bits, prop_bits, room_bits, wire_bits, framing_bits, payload_bits}
 use Rattle.rules.specs.Numbers.{period_bits, deadline_bits, hops_bits, hops_most, fixed_bits, hop_bits, table_longest}
-use Rattle.rules.specs.Replies.{Reply, granted, refused, test, each}
-use Rattle.rules.specs.Table.{View, view_of, hyper_of, wires_of, channels_of, wire_at, code_of, rate_of, prop_of, room_of}
+use Rattle.rules.specs.Replies.{Reply, granted, test, each}
+use Rattle.rules.specs.Table.{view_of, hyper_of, wires_of, channels_of, wire_at, code_of, rate_of, prop_of, room_of}
 use Rattle.rules.specs.Table.{channel_at, framing_at, payload_at, period_at, deadline_at, hops_at, route_at, end_of, filling_of}
 use Rattle.rules.specs.Channel.{value_tests, hop_tests}
 use Rattle.rules.specs.Reading.{head_tests, wire_tests, record_tests, channel_tests, filling_tests, reading_tests, reading}

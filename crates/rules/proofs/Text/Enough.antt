@@ -1,9 +1,8 @@
 -- No text is longer than what is enough for any.
-use mathlib.Core.Path.{◌≡◌, refl, sym, ap, ◌∙◌}
-use mathlib.Core.Logic.{◌⊎◌, inl, inr}
+use mathlib.Core.Path.{◌≡◌}
+use mathlib.Core.Logic.{inl, inr}
 use mathlib.Core.List.{List, [], ◌∷◌, ◌++◌}
 use Prim.Native.Nat.{ℕ, zero, suc, ◌+◌, ◌*◌, ◌^◌, ◌≤◌, ◌<◌}
-use native.Mathlib.Nat.{mul-le-mul_left}
 use native.Mathlib.Omega.{arith}
 use lib.ListN.{length, length-append}
 use Rattle.bits.proofs.Laws.{field_lt}
@@ -11,7 +10,6 @@ use Rattle.rules.specs.Words.{gathered}
 use Rattle.rules.specs.Numbers.{deadline_bits, sheet_longest, text_enough}
 use Rattle.rules.specs.Table.{View, view_of, deadline_at}
 use Rattle.rules.specs.Bounds.{backlog, delay, end_to_end}
-use Rattle.rules.specs.Judgement.{judge}
 use Rattle.rules.specs.Text.{word, decimal, spaced, line, lines, accepted_text, refused_text, text_of, text}
 use Rattle.rules.proofs.Text.Digits.{decimal-length, decimal-most}
 use Rattle.rules.proofs.Sheet.Asking.{FitsSheet}
