@@ -1,21 +1,23 @@
 -- Whether bits are all there, and what all stages leave.
 use mathlib.Core.Path.{◌≡◌, refl, sym, ap, ◌∙◌}
-use mathlib.Core.Bool.{Bool, true, false, not}
+use mathlib.Core.Bool.{Bool, true, false}
 use mathlib.Core.List.{List, []}
 use Prim.Native.Nat.{ℕ, ◌+◌, ◌*◌, ◌≤◌, ◌<◌}
 use lib.ListN.{length}
-use borrow.Author.Tests.{not-true, not-false, leb-false}
+use borrow.Author.Tests.{leb-false}
 use Rattle.bits.specs.Field.{within}
 use Rattle.bits.proofs.Laws.{within-le}
+use Rattle.rules.specs.declared.Reading.{Reading}
 use Rattle.rules.specs.declared.Reading.TheVariants as answer
 use Rattle.rules.specs.declared.Table.{Table}
 use Rattle.rules.specs.declared.TableRead.{TableRead}
 use Rattle.rules.specs.Numbers.{wires_most, channels_most, hops_most, routes_most}
-use Rattle.rules.specs.Replies.{granted, refused, reading_reply}
+use Rattle.rules.specs.Replies.{Reply, granted, refused, reading_reply, after}
 use Rattle.rules.specs.Bounds.{cost, times}
 use Rattle.rules.specs.Table.{View, view_of, rate_of, prop_of, room_of}
 use Rattle.rules.specs.Reading.{reading}
 use Rattle.rules.specs.Decoded.{column, hop_of, table_of, no_table, table_left}
+use Rattle.rules.proofs.Tests.{Stops}
 use Rattle.table.specs.declared.Head.{Head}
 use Rattle.table.specs.declared.Wires.{Wires}
 use Rattle.table.specs.declared.Channels.{Channels}
@@ -23,11 +25,17 @@ use Rattle.table.specs.Stages.{HeadRead, WiresRead, ChannelsRead, whole_of}
 
 -- a test of `holds`, that bits are all there
 module _ (s : List ℕ) (at w : ℕ) (b : Bool) (e : b ≡ within s at w) where
-  pub held : not b ≡ false → at + w ≤ 8 * length s
-  held h = within-le s at w (sym e ∙ not-false b h)
+  pub held : b ≡ true → at + w ≤ 8 * length s
+  held h = within-le s at w (sym e ∙ h)
 
-  pub missed : not b ≡ true → 8 * length s < at + w
-  missed h = leb-false (at + w) (8 * length s) (sym e ∙ not-true b h)
+  pub missed : b ≡ false → 8 * length s < at + w
+  missed h = leb-false (at + w) (8 * length s) (sym e ∙ h)
+
+-- a stage whose tests f refuse, whatever is left of them
+pub stopped :
+    (f left : Reply → Reply) (a : Reading) (n p : ℕ) → a ≡ answer.Refused n p → Stops f n p →
+    (rest : Reply) → f rest ≡ after a (left rest)
+stopped f left a n p e h rest = rw e (h rest)
 
 -- what `read` leaves, where the reading is refused or granted
 abbrev pub Left : List ℕ → TableRead → Type 0

@@ -15,7 +15,7 @@ use rules::{Pricing, Reading, Table, TableRead};
 // Of a record's fixed bits, those up to its deadline.
 const SENT_BITS: usize = Table::FRAMING_BITS + Table::PAYLOAD_BITS + Table::PERIOD_BITS;
 
-#[derive(Drop)]
+#[derive(Clone, Copy)]
 struct Head {
     answer: Reading,
     hyper: u64,
@@ -23,7 +23,7 @@ struct Head {
     channels: usize,
 }
 
-#[derive(Drop)]
+#[derive(Clone, Copy)]
 struct Wires {
     answer: Reading,
     rate: [u64; Table::WIRES_MOST],
@@ -32,7 +32,7 @@ struct Wires {
 }
 
 // Of one channel's record, what its fixed fields tell.
-#[derive(Drop)]
+#[derive(Clone, Copy)]
 struct Fixed {
     answer: Reading,
     price: u64,
@@ -41,7 +41,7 @@ struct Fixed {
     hops: usize,
 }
 
-#[derive(Drop)]
+#[derive(Clone, Copy)]
 struct Channels {
     answer: Reading,
     end: usize,
@@ -210,7 +210,7 @@ fn fixed_of(s: &[u8], hyper: u64, c: usize, at: usize) -> Fixed
 fn channels_of(s: &[u8], hyper: u64, n: usize, m: usize) -> Channels
     requires hyper_value { hyper ≡ hyper_of s.now }
     requires n_value { n ≡ wires_of s.now }
-    requires n_le_wires_most { (n ≤ wires_most) × (1 ≤ m) × (m ≤ channels_most) }
+    requires counts { (n ≤ wires_most) × (1 ≤ m) × (m ≤ channels_most) }
     ensures rest_value { (rest : Reply) → each (channel_tests s.now) 0 m rest ≡ after result.answer rest }
     ensures if_read { IfRead result.answer (ChannelsRead s.now m result) }
 {
