@@ -114,9 +114,9 @@ fn put_head(sheet: &mut [u8], wires: usize, channels: usize)
 }
 
 fn put_wires(sheet: &mut [u8], n: usize, figures: Figures)
-    requires n_le_wires_most { (n ≤ wires_most) × (figures_at n ≤ 8 * length sheet.old) }
-    requires by_index { (w : ℕ) → w < n → entries figures.backlog w < 2 ^ backlog_bits }
-    requires by_index_2 { (w : ℕ) → w < n → entries figures.delay w < 2 ^ delay_bits }
+    requires inside { (n ≤ wires_most) × (figures_at n ≤ 8 * length sheet.old) }
+    requires backlog_fits { (w : ℕ) → w < n → entries figures.backlog w < 2 ^ backlog_bits }
+    requires delay_fits { (w : ℕ) → w < n → entries figures.delay w < 2 ^ delay_bits }
     ensures { sheet.new ≡ wires_put figures n sheet.old }
 {
     let backlog = figures.backlog;
@@ -129,8 +129,8 @@ fn put_wires(sheet: &mut [u8], n: usize, figures: Figures)
 }
 
 fn put_channels(sheet: &mut [u8], n: usize, m: usize, figures: Figures)
-    requires n_le_wires_most { (n ≤ wires_most) × (m ≤ channels_most) × (end_at n m ≤ 8 * length sheet.old) }
-    requires by_index { (k : ℕ) → k < m → entries figures.end k < 2 ^ end_bits }
+    requires inside { (n ≤ wires_most) × (m ≤ channels_most) × (end_at n m ≤ 8 * length sheet.old) }
+    requires end_fits { (k : ℕ) → k < m → entries figures.end k < 2 ^ end_bits }
     ensures { sheet.new ≡ with_channels n (entries figures.end) m sheet.old }
 {
     let end = figures.end;
