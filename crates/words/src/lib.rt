@@ -14,8 +14,8 @@ const NEWLINE: [u8; 1] = [10];
 
 // The first n bytes of a word.
 fn copy(lent: &mut [u8], at: usize, word: &[u8], n: usize)
-    requires n_in_bounds { at + n ≤ length lent.old }
-    requires n_in_bounds_2 { n ≤ length word.now }
+    requires in_lent { at + n ≤ length lent.old }
+    requires in_word { n ≤ length word.now }
     ensures { lent.new ≡ laid lent.old at (take n word.now) }
 {
     for i in 0..n {
