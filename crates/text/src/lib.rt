@@ -23,8 +23,8 @@ fn put_lines(
     second: &[u64],
 ) -> usize
     requires at_bound { at ≤ suc (length lent.old) }
-    requires n_in_bounds { n ≤ length first.now }
-    requires n_in_bounds_2 { n ≤ length second.now }
+    requires in_first { n ≤ length first.now }
+    requires in_second { n ≤ length second.now }
     ensures { Put lent.old at
         (lines word.now (entries first.now) (entries second.now) n) result lent.new }
 {

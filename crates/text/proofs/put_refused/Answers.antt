@@ -1,0 +1,6 @@
+use Rattle.rules.specs.Text.{word, refused_text}
+use Rattle.text.proofs.put_refused.Goals as goal
+
+pub returns : goal.returns
+unfolding refused_text word
+returns c = record { place = c.put_line.ensures.value; bytes = c.put_line.ensures.lent_after }
