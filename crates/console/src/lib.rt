@@ -1,13 +1,14 @@
-// Standard input, whole or line by line, through a buffer that the caller lends; and words and numbers on standard output.
-// No contract can say which bytes are read or written.
+// Input, whole or line by line, through a buffer that the caller lends; and words and numbers as output.
 #![tactic(auto)]
 
 ghost use Rattle.std.specs.Prelude.{ℕ, ◌+◌, ◌<◌, ◌≤◌, ◌≡◌, get_or, length};
+ghost use Rattle.std.specs.Bool.{OnTrue};
+ghost use Rattle.std.specs.Io.KnownBytes.{Appends};
 ghost use Rattle.console.specs.Reading.{LineIn, Within};
 
-use libc::{STDERR_FILENO, STDIN_FILENO, STDOUT_FILENO};
+use std::io::{Read, Stderr, Write};
 
-#[derive(Drop)]
+#[derive(Clone, Copy)]
 pub enum Input {
     // So many bytes, at the start of the buffer.
     Bytes(usize),
@@ -15,16 +16,14 @@ pub enum Input {
 }
 
 // Reads until nothing is left or the buffer is full.
-pub fn read_whole(buffer: &mut [u8]) -> Input
+pub fn read_whole<R: Read>(input: &mut R, buffer: &mut [u8]) -> Input
     ensures { Within result buffer.new }
 {
     let mut n: usize = 0;
     while n < buffer.len() {
-        let got = libc::read(STDIN_FILENO, &mut buffer[n..]);
-        if got < 0 {
+        let Ok(more) = input.read(&mut buffer[n..]) else {
             return Input::Failed;
-        }
-        let more = io::count(got, &buffer[n..]);
+        };
         if more == 0 {
             return Input::Bytes(n);
         }
@@ -49,7 +48,7 @@ pub fn find(bytes: &[u8], stop: u8) -> usize
     i
 }
 
-#[derive(Drop)]
+#[derive(Clone, Copy)]
 pub enum Found {
     // A line, without its newline; the last one need not have one.
     Line,
@@ -62,7 +61,7 @@ pub enum Found {
 }
 
 // A line stands at start..end of the buffer, and what was read and not yet handed out at from..to.
-#[derive(Drop)]
+#[derive(Clone, Copy)]
 pub struct Line {
     pub found: Found,
     pub start: usize,
@@ -82,7 +81,7 @@ pub fn no_line() -> Line {
 
 // The next line after `last`, with at most one read, so that there may be nothing yet. A place outside the buffer counts as
 // its end.
-pub fn next_line(last: Line, buffer: &mut [u8]) -> Line
+pub fn next_line<R: Read>(input: &mut R, last: Line, buffer: &mut [u8]) -> Line
     ensures { LineIn result buffer.new }
 {
     let to = least(last.to, buffer.len());
@@ -96,12 +95,12 @@ pub fn next_line(last: Line, buffer: &mut [u8]) -> Line
         return handed(false, from, end, 0, 0, false);
     }
     if last.cut {
-        return read_on(buffer, to, to, true);
+        return read_on(input, buffer, to, to, true);
     }
     if n == buffer.len() {
         return too_long();
     }
-    read_on(buffer, from, to, false)
+    read_on(input, buffer, from, to, false)
 }
 
 // A line, or nothing where it is the end of one that is too long.
@@ -126,11 +125,11 @@ fn too_long() -> Line
     read_up_to(Found::TooLong, 0, true, false)
 }
 
-fn read_on(buffer: &mut [u8], from: usize, to: usize, cut: bool) -> Line
+fn read_on<R: Read>(input: &mut R, buffer: &mut [u8], from: usize, to: usize, cut: bool) -> Line
     requires { (from ≤ to) × (to ≤ length buffer.old) }
     ensures { (result.start ≡ 0) × (result.end ≡ 0) }
 {
-    after_read(refill(buffer, from, to), to - from, cut)
+    after_read(refill(input, buffer, from, to), to - from, cut)
 }
 
 fn least(a: usize, b: usize) -> usize
@@ -140,16 +139,14 @@ fn least(a: usize, b: usize) -> usize
 }
 
 // Moves the bytes at from..to to the start of the buffer, reads behind them, and answers up to where the buffer is filled.
-fn refill(buffer: &mut [u8], from: usize, to: usize) -> Input
+fn refill<R: Read>(input: &mut R, buffer: &mut [u8], from: usize, to: usize) -> Input
     requires { (from ≤ to) × (to ≤ length buffer.old) }
 {
     let kept = to - from;
     move_to_front(buffer, from, kept);
-    let got = libc::read(STDIN_FILENO, &mut buffer[kept..]);
-    if got < 0 {
+    let Ok(more) = input.read(&mut buffer[kept..]) else {
         return Input::Failed;
-    }
-    let more = io::count(got, &buffer[kept..]);
+    };
     Input::Bytes(kept + more)
 }
 
@@ -188,32 +185,32 @@ fn move_to_front(bytes: &mut [u8], from: usize, n: usize)
     }
 }
 
-// Whether all of it was written to standard output.
-pub fn write(text: &[u8]) -> bool {
-    io::write_all(STDOUT_FILENO, text)
+// Whether all of it was written.
+pub fn write<W: Write>(output: &mut W, text: &[u8]) -> bool
+    ensures { OnTrue result (Appends (W.contents output.old) (W.contents output.new) text.now) }
+{
+    output.write_all(text).is_ok()
 }
 
-pub fn print(text: &[u8]) {
-    write(text);
+pub fn print<W: Write>(output: &mut W, text: &[u8]) {
+    write(output, text);
 }
 
 // A blank and a number.
-pub fn print_number(n: u64) {
-    print(b" ");
-    io::print_decimal(STDOUT_FILENO, n);
+pub fn print_number<W: Write>(output: &mut W, n: u64) {
+    let _ = write!(output, " {n}");
 }
 
 // Bytes in hexadecimal, or "-" where there are none.
-pub fn print_hex(bytes: &[u8]) {
+pub fn print_hex<W: Write>(output: &mut W, bytes: &[u8]) {
     if bytes.len() == 0 {
-        print(b"-");
+        print(output, b"-");
     }
-    for i in 0..bytes.len() {
-        io::print_hex(STDOUT_FILENO, bytes[i] as u64, 2);
+    for byte in bytes {
+        let _ = write!(output, "{byte:02x}");
     }
 }
 
-// On standard error.
-pub fn complain(text: &[u8]) {
-    io::write_all(STDERR_FILENO, text);
+pub fn complain(mut errors: Stderr, text: &[u8]) {
+    write(&mut errors, text);
 }

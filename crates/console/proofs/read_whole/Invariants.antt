@@ -1,0 +1,9 @@
+use Rattle.std.proofs.Common.{length, ◌-◌, ◌≤◌}
+use Rattle.console.proofs.read_whole.Given as goal
+
+abbrev pub invariant-loop-n : goal.invariant-loop-n
+invariant-loop-n g l = l.n ≤ length l.buffer
+
+-- each read leaves less room
+abbrev pub decreases-loop-n : goal.decreases-loop-n
+decreases-loop-n g l = length l.initial.buffer - l.n
