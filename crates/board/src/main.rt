@@ -3,26 +3,27 @@
 
 use console::Input;
 use rules::{Table, Written};
+use std::io::{Stderr, Stdout};
 
 // A longer table has the reply of its first 2,166 bytes.
 const ENOUGH: usize = Table::LONGEST + 1;
 
-fn show(table: &[u8]) {
+fn show(mut output: Stdout, errors: Stderr, table: &[u8]) {
     let mut said = [0u8; Table::TEXT_ENOUGH];
     let Written::Length(length) = text::write(table, &mut said) else {
-        console::complain(b"board: the text is too long\n");
+        console::complain(errors, b"board: the text is too long\n");
         return;
     };
-    if !console::write(&said[..length as usize]) {
-        console::complain(b"board: standard output cannot be written\n");
+    if !console::write(&mut output, &said[..length as usize]) {
+        console::complain(errors, b"board: standard output cannot be written\n");
     }
 }
 
-fn main() {
+fn main(rt: HostRuntime) {
     let mut bytes = [0u8; ENOUGH];
-    let Input::Bytes(n) = console::read_whole(&mut bytes) else {
-        console::complain(b"board: standard input cannot be read\n");
+    let Input::Bytes(n) = console::read_whole(&mut rt.stdin(), &mut bytes) else {
+        console::complain(rt.stderr(), b"board: standard input cannot be read\n");
         return;
     };
-    show(&bytes[..n]);
+    show(rt.stdout(), rt.stderr(), &bytes[..n]);
 }

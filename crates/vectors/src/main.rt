@@ -4,6 +4,7 @@
 
 use console::{Found, print, print_number};
 use rules::{AskedChannel, AskedLabel, AskedWire, Judging, Pricing};
+use std::io::{Stderr, Stdin, Stdout};
 
 mod text;
 
@@ -13,122 +14,122 @@ const LINE_MOST: usize = 32_768;
 // No line holds a longer byte string.
 const BYTES_MOST: usize = 16_384;
 
-fn print_refusal(number: u64, place: u64) {
-    print(b"R");
-    print_number(number);
-    print_number(place);
+fn print_refusal(output: &mut Stdout, number: u64, place: u64) {
+    print(output, b"R");
+    print_number(output, number);
+    print_number(output, place);
 }
 
-fn price(framing: u64, payload: u64) {
+fn price(output: &mut Stdout, framing: u64, payload: u64) {
     match framing::price(framing, payload) {
         Pricing::Price(bytes) => {
-            print(b"V");
-            print_number(bytes);
+            print(output, b"V");
+            print_number(output, bytes);
         }
-        Pricing::Refused(number, place) => print_refusal(number, place),
+        Pricing::Refused(number, place) => print_refusal(output, number, place),
     }
 }
 
-fn print_judging(judging: Judging) {
+fn print_judging(output: &mut Stdout, judging: Judging) {
     match judging {
         Judging::Accepted(length) => {
-            print(b"A");
-            print_number(length);
+            print(output, b"A");
+            print_number(output, length);
         }
-        Judging::Refused(number, place) => print_refusal(number, place),
+        Judging::Refused(number, place) => print_refusal(output, number, place),
     }
-    print(b" ");
+    print(output, b" ");
 }
 
 // The reply, and the lent buffer afterwards.
-fn judged(table: &[u8], lent: &mut [u8]) {
-    print_judging(judge::judge(table, lent));
-    console::print_hex(lent);
+fn judged(output: &mut Stdout, table: &[u8], lent: &mut [u8]) {
+    print_judging(output, judge::judge(table, lent));
+    console::print_hex(output, lent);
 }
 
 // The buffer is lent full of 85, which is neither a refusal's filling nor zeros.
-fn judged_into(table: &[u8], lent: u64) {
+fn judged_into(output: &mut Stdout, table: &[u8], lent: u64) {
     if (BYTES_MOST as u64) < lent {
-        print(b"lent too long");
+        print(output, b"lent too long");
         return;
     }
     let mut buffer = [85u8; BYTES_MOST];
-    let end = io::count(lent as isize, &buffer);
-    judged(table, &mut buffer[..end]);
+    let end = lent as usize;
+    judged(output, table, &mut buffer[..end]);
 }
 
-fn wire(sheet: &[u8], index: u64) {
+fn wire(output: &mut Stdout, sheet: &[u8], index: u64) {
     match sheet::ask_wire(sheet, index) {
         AskedWire::Figures(backlog, delay) => {
-            print(b"V");
-            print_number(backlog);
-            print_number(delay);
+            print(output, b"V");
+            print_number(output, backlog);
+            print_number(output, delay);
         }
-        AskedWire::Refused(number, place) => print_refusal(number, place),
+        AskedWire::Refused(number, place) => print_refusal(output, number, place),
     }
 }
 
-fn channel(sheet: &[u8], index: u64) {
+fn channel(output: &mut Stdout, sheet: &[u8], index: u64) {
     match sheet::ask_channel(sheet, index) {
         AskedChannel::Delay(delay) => {
-            print(b"V");
-            print_number(delay);
+            print(output, b"V");
+            print_number(output, delay);
         }
-        AskedChannel::Refused(number, place) => print_refusal(number, place),
+        AskedChannel::Refused(number, place) => print_refusal(output, number, place),
     }
 }
 
 // Where the stretch starts and ends: both are below 65,536, which the reply's contract does not say by itself.
-fn label(roll: &[u8], number: u64) {
+fn label(output: &mut Stdout, roll: &[u8], number: u64) {
     match roll::ask(roll, number) {
         AskedLabel::Stretch(start, length) => {
-            print(b"V");
-            print_number(start);
-            print_number(start % 65_536 + length % 65_536);
+            print(output, b"V");
+            print_number(output, start);
+            print_number(output, start % 65_536 + length % 65_536);
         }
-        AskedLabel::Refused(number, place) => print_refusal(number, place),
+        AskedLabel::Refused(number, place) => print_refusal(output, number, place),
     }
 }
 
-fn asked(kind: u8, bytes: &[u8], number: u64) {
+fn asked(output: &mut Stdout, kind: u8, bytes: &[u8], number: u64) {
     match kind {
-        b'J' => judged_into(bytes, number),
-        b'W' => wire(bytes, number),
-        b'C' => channel(bytes, number),
-        b'N' => label(bytes, number),
-        _ => print(b"no such case"),
+        b'J' => judged_into(output, bytes, number),
+        b'W' => wire(output, bytes, number),
+        b'C' => channel(output, bytes, number),
+        b'N' => label(output, bytes, number),
+        _ => print(output, b"no such case"),
     }
 }
 
 // BYTES NUMBER, after KIND and but for a label the layout 1.
-fn of_bytes(kind: u8, words: &[u8]) {
+fn of_bytes(output: &mut Stdout, kind: u8, words: &[u8]) {
     let mut space = [0u8; BYTES_MOST];
     let n = text::bytes(words, &mut space);
-    asked(kind, &space[..n], text::number(text::rest(words)));
+    asked(output, kind, &space[..n], text::number(text::rest(words)));
 }
 
-fn case(line: &[u8]) {
+fn case(output: &mut Stdout, line: &[u8]) {
     let kind = text::kind(line);
     let words = text::rest(line);
     if kind == b'P' {
-        price(text::number(words), text::number(text::rest(words)));
+        price(output, text::number(words), text::number(text::rest(words)));
     } else if kind == b'N' {
-        of_bytes(kind, words);
+        of_bytes(output, kind, words);
     } else {
-        of_bytes(kind, text::rest(words));
+        of_bytes(output, kind, text::rest(words));
     }
-    print(b"\n");
+    print(output, b"\n");
 }
 
 // Whether there is more to come.
-fn answer(found: Found, line: &[u8]) -> bool {
+fn answer(output: &mut Stdout, errors: Stderr, found: Found, line: &[u8]) -> bool {
     match found {
-        Found::Line => case(line),
-        Found::TooLong => print(b"line too long\n"),
+        Found::Line => case(output, line),
+        Found::TooLong => print(output, b"line too long\n"),
         Found::Nothing => {}
         Found::End => return false,
         Found::Failed => {
-            console::complain(b"vectors: standard input cannot be read\n");
+            console::complain(errors, b"vectors: standard input cannot be read\n");
             return false;
         }
     }
@@ -136,20 +137,20 @@ fn answer(found: Found, line: &[u8]) -> bool {
 }
 
 // Nothing says that the input ends: the turns do, after longer than any machine runs.
-fn cases(buffer: &mut [u8]) {
+fn cases(mut input: Stdin, mut output: Stdout, errors: Stderr, buffer: &mut [u8]) {
     let mut line = console::no_line();
     for _ in 0..u64::MAX {
-        line = console::next_line(line, buffer);
+        line = console::next_line(&mut input, line, buffer);
         let found = line.found;
         let start = line.start;
         let end = line.end;
-        if !answer(found, &buffer[start..end]) {
+        if !answer(&mut output, errors, found, &buffer[start..end]) {
             return;
         }
     }
 }
 
-fn main() {
+fn main(rt: HostRuntime) {
     let mut buffer = [0u8; LINE_MOST];
-    cases(&mut buffer);
+    cases(rt.stdin(), rt.stdout(), rt.stderr(), &mut buffer);
 }

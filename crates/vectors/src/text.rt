@@ -1,6 +1,6 @@
 // A line's words, and the numbers and byte strings that they spell.
 ghost use Rattle.std.specs.Prelude.{◌≤◌};
-ghost use Rattle.io.specs.Counts.{IsPrefixLen};
+ghost use Rattle.console.specs.Reading.{IsPrefixLen};
 
 // What follows the first word and its blank.
 pub(crate) fn rest(s: &[u8]) -> &[u8] {
