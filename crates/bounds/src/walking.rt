@@ -82,10 +82,10 @@ fn raise(
     end: &mut [u64; Table::CHANNELS_MOST],
 )
     requires on_wire { OnWire table.now w count list.now }
-    requires spare { Spare table.now late jitter.old }
-    requires spare_2 { Spare table.now spent end.old }
-    ensures raised_by { RaisedBy table.now w late jitter.old jitter.new }
-    ensures raised_by_2 { RaisedBy table.now w spent end.old end.new }
+    requires jitter_spare { Spare table.now late jitter.old }
+    requires end_spare { Spare table.now spent end.old }
+    ensures jitter_raised { RaisedBy table.now w late jitter.old jitter.new }
+    ensures end_raised { RaisedBy table.now w spent end.old end.new }
 {
     let first = Table::CHANNELS_MOST * w;
     for j in 0..count {
