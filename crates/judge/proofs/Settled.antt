@@ -1,7 +1,7 @@
 -- What the judge's own contract settles: case A's bytes force its reply and its sheet, another table another reply, and for any
 -- reply and buffer that meet it with acceptance the promise holds of the buffer's first bytes.
 use mathlib.Core.Path.{◌≡◌, sym, ap, ap₂, ◌∙◌}
-use mathlib.Core.List.{List, [], ◌∷◌}
+use mathlib.Core.List.{List}
 use Prim.Native.Nat.{ℕ}
 use lib.ListN.{length, take, replicate}
 use contract.Lifetimes.{Lfts}
