@@ -103,8 +103,8 @@ pub fn ask(roll: &[u8], number: u64) -> AskedLabel
 
 // The label itself, as the part of the lent roll that holds it; on a refusal an empty part at the roll's start.
 pub fn label(roll: &[u8], number: u64) -> &[u8]
-    ensures result_value { result.now ≡ stretch (ask_label roll.now number) roll.now }
-    ensures ref_ptr_value { result.ref_ptr ≡ from roll.entry.ref_ptr (stretch_start (ask_label roll.now number)) }
+    ensures value { result.now ≡ stretch (ask_label roll.now number) roll.now }
+    ensures place { result.ref_ptr ≡ from roll.entry.ref_ptr (stretch_start (ask_label roll.now number)) }
 {
     match ask(roll, number) {
         AskedLabel::Stretch(start, length) => &roll[start as usize..(start + length) as usize],
