@@ -1,4 +1,4 @@
-// The C face: each reply in 64 bits.
+// The C face (magsurinda_c exports it): each reply in 64 bits.
 #![tactic(auto)]
 
 ghost use Rattle.std.specs.Prelude.{◌≡◌, ◌+◌, ◌*◌, ◌^◌, ◌<◌, length};
@@ -35,8 +35,7 @@ fn pack_figures(backlog: u64, delay: u64) -> u64
     pack(0, 0, backlog * BACKLOG + delay)
 }
 
-#[unsafe(no_mangle)]
-pub extern "C" fn magsurinda_judge(table: &[u8], sheet: &mut [u8]) -> u64
+pub fn magsurinda_judge(table: &[u8], sheet: &mut [u8]) -> u64
     ensures value { result ≡ packed only (judge_of table.now (length sheet.old)) }
     ensures sheet_after { sheet.new ≡ buffer table.now (length sheet.old) }
 {
@@ -47,8 +46,7 @@ pub extern "C" fn magsurinda_judge(table: &[u8], sheet: &mut [u8]) -> u64
     }
 }
 
-#[unsafe(no_mangle)]
-pub extern "C" fn magsurinda_price(framing: u64, payload: u64) -> u64
+pub fn magsurinda_price(framing: u64, payload: u64) -> u64
     ensures { result ≡ packed only (ask_price framing payload) }
 {
     let answer = framing::price(framing, payload);
@@ -58,8 +56,7 @@ pub extern "C" fn magsurinda_price(framing: u64, payload: u64) -> u64
     }
 }
 
-#[unsafe(no_mangle)]
-pub extern "C" fn magsurinda_ask_wire(sheet: &[u8], wire: u64) -> u64
+pub fn magsurinda_ask_wire(sheet: &[u8], wire: u64) -> u64
     ensures { result ≡ packed figures (ask_wire sheet.now wire) }
 {
     let answer = sheet::ask_wire(sheet, wire);
@@ -69,8 +66,7 @@ pub extern "C" fn magsurinda_ask_wire(sheet: &[u8], wire: u64) -> u64
     }
 }
 
-#[unsafe(no_mangle)]
-pub extern "C" fn magsurinda_ask_channel(sheet: &[u8], channel: u64) -> u64
+pub fn magsurinda_ask_channel(sheet: &[u8], channel: u64) -> u64
     ensures { result ≡ packed only (ask_channel sheet.now channel) }
 {
     let answer = sheet::ask_channel(sheet, channel);
@@ -80,8 +76,7 @@ pub extern "C" fn magsurinda_ask_channel(sheet: &[u8], channel: u64) -> u64
     }
 }
 
-#[unsafe(no_mangle)]
-pub extern "C" fn magsurinda_label(roll: &[u8], number: u64) -> u64
+pub fn magsurinda_label(roll: &[u8], number: u64) -> u64
     ensures { result ≡ packed stretch (ask_label roll.now number) }
 {
     let answer = roll::ask(roll, number);
@@ -92,8 +87,7 @@ pub extern "C" fn magsurinda_label(roll: &[u8], number: u64) -> u64
 }
 
 // Bit k is set where request Q-k is in.
-#[unsafe(no_mangle)]
-pub extern "C" fn magsurinda_requests() -> u64
+pub fn magsurinda_requests() -> u64
     ensures { result ≡ requests }
 {
     (1 << 2) + (1 << 4)
