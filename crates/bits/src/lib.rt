@@ -29,6 +29,7 @@ fn trim(n: u64, behind: usize, width: usize) -> u64
 }
 
 // Of a number the width digits above the last `behind`.
+#[tactic(auto, using(crate::proofs::Digits::none_beyond, crate::proofs::Digits::all_within))]
 pub fn part(n: u64, behind: usize, width: usize) -> u64
     ensures { result ≡ n / 2 ^ behind % 2 ^ width }
 {
