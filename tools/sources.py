@@ -19,7 +19,7 @@ def crates(root=ROOT):
 
 # ---- functions
 
-IGNORED_RT = re.compile(r'(?<!extern )b?"(?:\\.|[^"\\])*"|b?\'(?:\\.|[^\'\\])\'|//[^\n]*|/\*.*?\*/', re.S)
+IGNORED_RT = re.compile(r'extern "C"|b?"(?:\\.|[^"\\])*"|b?\'(?:\\.|[^\'\\])\'|//[^\n]*|/\*.*?\*/', re.S)
 ITEM = re.compile(
     r"\b(?:impl\b\s*(?:<[^>]*>)?\s*(?P<impl>\w+)[^{;]*\{|mod\s+(?P<mod>\w+)\s*\{)"
     r"|(?P<marks>(?:#\[[^\]]*\]\s*)*)(?P<sees>(?:\bpub\b(?:\s*\([^)]*\))?\s+)?)"
@@ -67,7 +67,7 @@ def cut(code):
 
 def plain(source):
     """A text of Rattle without its comments, and each literal as one word: no brace in it counts, and no two are the same."""
-    return IGNORED_RT.sub(lambda m: " " if m[0][0] == "/" else m[0].encode().hex(), source)
+    return IGNORED_RT.sub(lambda m: " " if m[0][0] == "/" else m[0] if m[0][0] == "e" else m[0].encode().hex(), source)
 
 
 @lru_cache(maxsize=None)

@@ -100,7 +100,7 @@ AT = re.compile(
     r"^(?:note: what antt said of .* in the proof that rattle made: )?(?:\./)?(?P<file>[^\s:]+):(?P<line>\d+):\d+: error: (?P<says>.*)")
 # Of an answer that Rattle looks for itself and does not find: the goal, values at which it is false, or only where it stands.
 GOAL = re.compile(r"^note: (?P<goal>`[^`]*`) of (?P<file>\S+) (?P<says>(?:must prove|may be false): .*)")
-UNPROVED = re.compile(r"^note: (?:\./)?(?P<file>src/[^\s:]+):(?P<line>\d+):\d+: (?P<says>it is not proved that [^;]*)")
+UNPROVED = re.compile(r"^note: (?:\./)?(?P<file>src/[^\s:]+):(?P<line>\d+):\d+: (?P<says>it is not proved that .*)")
 
 
 def errors(log):
@@ -140,7 +140,7 @@ COMPUTED = re.compile(r"computed as far as they go, the two types (?:differ|firs
 PRINTED = re.compile(r"as printed, the two types (?:first )?differ.*?\(expected\).*?\(found\)")
 EQUATIONS = re.compile(r"expected type `[^`]* ≡ [^`]*`, but this has type `[^`]* ≡ [^`]*`")
 COUNTEREXAMPLE = re.compile(r"`omega`: .*?does not follow from what it read\..*?fails, at `[^`]*` = \d+")
-NOT_FOUND = re.compile(r"`(?:search|grind)`: no proof of `[^`]*`|must prove: .{1,300}(?= |$)|it is not proved that .*")
+NOT_FOUND = re.compile(r"`(?:search|grind)`: no proof of `[^`]*`|must prove: .{1,300}(?= |$)|it is not proved that [^;]*")
 KINDS = (ALLOWED, COMPUTED, PRINTED, EQUATIONS, COUNTEREXAMPLE, NOT_FOUND)
 
 
