@@ -69,16 +69,15 @@ pub fn bounds(table: &[u8]) -> Bounded
 {
     let read = table::read(table);
     let reading = read.answer;
-    let t = read.table;
     if let Reading::Refused(_, _) = reading {
         let figures = walking::no_figures();
         return Bounded {
             answer: reading,
-            table: t,
+            table: read.table,
             figures,
         };
     }
-    let worked = work_out(table, t);
+    let worked = work_out(table, read.table);
     let answer = worked.answer;
     let figures = worked.figures;
     if let Reading::Refused(_, _) = answer {
@@ -90,7 +89,7 @@ pub fn bounds(table: &[u8]) -> Bounded
     }
     Bounded {
         answer,
-        table: t,
+        table: read.table,
         figures,
     }
 }

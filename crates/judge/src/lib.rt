@@ -7,7 +7,7 @@ ghost use Rattle.rules.specs.Table.{view_of};
 ghost use Rattle.rules.specs.Judgement.{deadline_tests, judge as judged, buffer};
 ghost use Rattle.judge.specs.Stages.{Ends};
 
-use rules::{Judging, Reading, Table, Written};
+use rules::{Bounded, Judging, Reading, Table, Written};
 
 const NO_ROOM: u64 = 15;
 
@@ -42,6 +42,16 @@ fn none_late(
     Reading::Read
 }
 
+// 14 of what the bounds are. Its arrays are on the stack only where those of the bounds no longer are.
+fn tested(table: &[u8], bounded: Bounded) -> Reading
+    requires { Ends table.now bounded.figures.end bounded.table.deadline bounded.table.channels }
+    ensures { Answered (deadline_tests (view_of table.now)) result }
+{
+    let end = bounded.figures.end;
+    let deadline = bounded.table.deadline;
+    none_late(table, &end, &deadline, bounded.table.channels)
+}
+
 pub fn judge(table: &[u8], sheet: &mut [u8]) -> Judging
     ensures result_value { judging_reply result ≡ judged table.now (length sheet.old) }
     ensures sheet_after { sheet.new ≡ buffer table.now (length sheet.old) }
@@ -52,9 +62,7 @@ pub fn judge(table: &[u8], sheet: &mut [u8]) -> Judging
         return refuse(sheet, number, place);
     }
     let figures = bounded.figures;
-    let end = figures.end;
-    let deadline = bounded.table.deadline;
-    let timely = none_late(table, &end, &deadline, bounded.table.channels);
+    let timely = tested(table, bounded);
     if let Reading::Refused(number, place) = timely {
         return refuse(sheet, number, place);
     }

@@ -134,8 +134,8 @@ returns-in-Refused c =
     c.refuse.ensures.value c.refuse.ensures.sheet_after in
     record { result_value = j.0; sheet_after = j.1 }
 
-pub none_late-timely-requires : goal.none_late-timely-requires
-none_late-timely-requires c =
+pub tested-timely-requires : goal.tested-timely-requires
+tested-timely-requires c =
     let s = c.args.table.now in
     let lent = length c.args.sheet.now in
     let b = c.bounds-bounded.ensures in
@@ -148,7 +148,7 @@ returns-in-Refused-timely c =
     let b = c.bounds-bounded.ensures in
     let j =
     judged-refused s lent _ _ _ _ (too_late s lent c.bounds-bounded.result b.answer_value b.table_value b.figures_value
-    c.in_default.is c.none_late-timely.result c.none_late-timely.ensures _ _ c.in-Refused-timely.is)
+    c.in_default.is c.tested-timely.result c.tested-timely.ensures _ _ c.in-Refused-timely.is)
     c.refuse-in-Refused-timely.ensures.value c.refuse-in-Refused-timely.ensures.sheet_after in
     record { result_value = j.0; sheet_after = j.1 }
 
@@ -158,7 +158,7 @@ returns-in-Length c =
     let lent = length c.args.sheet.now in
     let b = c.bounds-bounded.ensures in
     let j =
-    accepted s lent c.bounds-bounded.result b.answer_value b.table_value b.figures_value c.in_default.is c.none_late-timely.result c.none_late-timely.ensures
+    accepted s lent c.bounds-bounded.result b.answer_value b.table_value b.figures_value c.in_default.is c.tested-timely.result c.tested-timely.ensures
     c.in_default-timely.is c.write-written.result c.write-written.new.sheet c.write-written.ensures.value c.write-written.ensures.sheet_after
     c.in-Length.length c.in-Length.is in
     record { result_value = j.0; sheet_after = j.1 }
@@ -169,7 +169,7 @@ returns-in-Nothing c =
     let lent = length c.args.sheet.now in
     let b = c.bounds-bounded.ensures in
     let j =
-    no_room_left s lent c.bounds-bounded.result b.answer_value b.table_value b.figures_value c.in_default.is c.none_late-timely.result c.none_late-timely.ensures
+    no_room_left s lent c.bounds-bounded.result b.answer_value b.table_value b.figures_value c.in_default.is c.tested-timely.result c.tested-timely.ensures
     c.in_default-timely.is c.write-written.result c.write-written.new.sheet c.write-written.ensures.value c.write-written.ensures.sheet_after
     c.in-Nothing.is in
     record { result_value = j.0; sheet_after = j.1 }
