@@ -138,10 +138,10 @@ NO_FACT = re.compile(r"has no `|is not in scope|was not admitted|no occurrence|h
 ALLOWED = re.compile(r"may be false: the known facts allow `[^`]*` = `[^`]*`")
 COMPUTED = re.compile(r"computed as far as they go, the two types (?:differ|first differ|are).*?\(expected\).*?\(found\)")
 PRINTED = re.compile(r"as printed, the two types (?:first )?differ.*?\(expected\).*?\(found\)")
-EQUATIONS = re.compile(r"expected type `[^`]* ≡ [^`]*`, but this has type `[^`]* ≡ [^`]*`")
+STATED = re.compile(r"expected type `[^`]*`,? but this has type `[^`]*`")
 COUNTEREXAMPLE = re.compile(r"`omega`: .*?does not follow from what it read\..*?fails, at `[^`]*` = \d+")
 NOT_FOUND = re.compile(r"`(?:search|grind)`: no proof of `[^`]*`|must prove: .{1,300}(?= |$)|it is not proved that [^;]*")
-KINDS = (ALLOWED, COMPUTED, PRINTED, EQUATIONS, COUNTEREXAMPLE, NOT_FOUND)
+KINDS = (ALLOWED, COMPUTED, PRINTED, STATED, COUNTEREXAMPLE, NOT_FOUND)
 
 
 def is_fact(message):
