@@ -139,7 +139,7 @@ ALLOWED = re.compile(r"may be false: the known facts allow `[^`]*` = `[^`]*`")
 COMPUTED = re.compile(r"computed as far as they go, the two types (?:differ|first differ|are).*?\(expected\).*?\(found\)")
 PRINTED = re.compile(r"as printed, the two types (?:first )?differ.*?\(expected\).*?\(found\)")
 STATED = re.compile(r"expected type `[^`]*`,? but this has type `[^`]*`")
-COUNTEREXAMPLE = re.compile(r"`omega`: .*?does not follow from what it read\..*?fails, at `[^`]*` = \d+")
+COUNTEREXAMPLE = re.compile(r"`omega`: .*?does not follow from what it read\..*?fails, at (?:`[^`]*` = \d+|0 for every atom)")
 NOT_FOUND = re.compile(r"`(?:search|grind)`: no proof of `[^`]*`|must prove: .{1,300}(?= |$)|it is not proved that [^;]*")
 KINDS = (ALLOWED, COMPUTED, PRINTED, STATED, COUNTEREXAMPLE, NOT_FOUND)
 
