@@ -59,7 +59,7 @@ fn work_out(table: &[u8], t: Table) -> Worked
     if let Reading::Refused(_, _) = loads {
         return walking::unworked(loads);
     }
-    walking::walk(table, t, &list, &count, &ahead)
+    walking::walk(table, &t, &list, &count, &ahead)
 }
 
 pub fn bounds(table: &[u8]) -> Bounded

@@ -124,12 +124,12 @@ fn less_one(d: u64) -> u64
 // that fails 13, so that every delay before it fits 24 bits.
 pub(crate) fn walk(
     table: &[u8],
-    t: Table,
+    t: &Table,
     list: &[u8; FILED_MOST],
     count: &[usize; Table::WIRES_MOST],
     ahead: &[u64; Table::WIRES_MOST],
 ) -> Worked
-    requires { ToWalk table.now t list.now count.now ahead.now }
+    requires { ToWalk table.now t.now list.now count.now ahead.now }
     ensures answered { Answered (room_tests (view_of table.now)) result.answer }
     ensures figures_value { result.figures ≡ figures_left (reading_reply result.answer) (view_of table.now) }
 {

@@ -183,7 +183,7 @@ pub hold-held-requires : goal.hold-held-requires
 hold-held-requires c =
     let to = c.requires in
     let w = c.loop-w.w in
-    let l : w < c.args.t.wires = omega arith in
+    let l : w < c.args.t.now.wires = omega arith in
     (rate_at_least to w l, rate_at_most to w l, two-frames to w l)
 
 pub burst-requires-clause-on_wire : goal.burst-requires-clause-on_wire
@@ -207,7 +207,7 @@ returns-then-room-w c =
     let t = view_of c.args.table.now in
     let to = c.requires in
     let w = c.loop-w.w in
-    let l : w < c.args.t.wires = omega arith in
+    let l : w < c.args.t.now.wires = omega arith in
     let left =
     left-refused t c.unworked.result 13 w c.unworked.ensures
     (from-stop (room_test t) t.wires w (less to w l) c.loop-w.invariant.search
@@ -218,7 +218,7 @@ pub slots-wait-requires : goal.slots-wait-requires
 slots-wait-requires c =
     let to = c.requires in
     let w = c.loop-w.w in
-    let l : w < c.args.t.wires = omega arith in (
+    let l : w < c.args.t.now.wires = omega arith in (
       rate_at_least to w l,
       omega (
         arith,
@@ -254,7 +254,7 @@ loop-w-preserved c =
     let to = c.requires in
     let w = c.loop-w.w in
     let here = c.loop-w.invariant.walking in
-    let l : w < c.args.t.wires = omega arith in
+    let l : w < c.args.t.now.wires = omega arith in
     record {
       most = c.loop-w.invariant.most;
       search =
