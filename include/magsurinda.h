@@ -28,7 +28,7 @@ extern "C" {
 /* The longest roll of labels that is sound, in bytes. */
 #define MAGSURINDA_ROLL_LONGEST 3201
 
-/* Bytes of stack that no call exceeds: measured at the longest table (tests/stack), with some 5,000 to spare; not proved. */
+/* Bytes of stack that no call exceeds: measured at the longest table (tests/stack), with some 2,000 to spare; not proved. */
 #define MAGSURINDA_STACK 40960
 
 /* Which requests are in the rules that this header is of, bit k for request Q-k: Q-2, the priority tag, and Q-4, the office
