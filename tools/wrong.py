@@ -81,10 +81,10 @@ def stray(edit):
     return bool(held[1:] and steps(held[0][1])) or any(not file for _, lines in held for file, _, _ in steps(lines))
 
 
-def edited(crate, wrong):
-    """Each file that a wrong program changes, as it becomes."""
+def edited(crate, held):
+    """Each file that wrong programs change, applied one after the other, as it becomes."""
     became = {}
-    for file, old, new in steps(wrong.lines):
+    for file, old, new in (step for wrong in held for step in steps(wrong.lines)):
         before = became.get(file, text(crate / file))
         if not old or before.count(old) != 1:
             raise ValueError(f"an 'old:' text is not in {file}, or more than once")
