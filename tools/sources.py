@@ -21,7 +21,8 @@ def crates(root=ROOT):
 
 IGNORED_RT = re.compile(r'extern "C"|b?"(?:\\.|[^"\\])*"|b?\'(?:\\.|[^\'\\])\'|//[^\n]*|/\*.*?\*/', re.S)
 ITEM = re.compile(
-    r"\b(?:impl\b\s*(?:<[^>]*>)?\s*(?P<impl>\w+)[^{;]*\{|mod\s+(?P<mod>\w+)\s*\{)"
+    r"\b(?:impl\b\s*(?:<[^>]*>)?\s*(?:(?:\w+::)*(?P<trait>\w+)(?:<(?P<at>[^{;]*?)>)?\s+for\s+)?(?P<impl>\w+)[^{;]*\{"
+    r"|mod\s+(?P<mod>\w+)\s*\{)"
     r"|(?P<marks>(?:#\[[^\]]*\]\s*)*)(?P<sees>(?:\bpub\b(?:\s*\([^)]*\))?\s+)?)"
     r'(?P<kind>(?:\b(?:const|unsafe|extern)\b\s*(?:"[^"]*"\s*)?)*)\bfn\s+(?P<fn>\w+)'
     r"|(?P<brace>[{}])"
@@ -87,8 +88,15 @@ def functions_in(file, source):
         elif m["brace"] == "}":
             del around[-1:]
         else:
-            around.append(m["impl"] or m["mod"])
+            at = "".join(word[0].upper() + word[1:] for word in re.findall(r"\w+", m["at"] or "")) # as in FramingTryFromU64
+            around.append((m["impl"] or "") + (m["trait"] or "") + at or m["mod"])
     return found
+
+
+def members(source):
+    """What each ghost member of a text of src/ says: of a trait's impl what it promises, of a type what holds of its values."""
+    code = plain(source)
+    return [code[m.end():closed(code, m.end() - 1) - 1] for m in re.finditer(r"\bghost \w+(?::| =) \{", code)]
 
 
 def files(crate, part, suffix):

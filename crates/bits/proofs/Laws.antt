@@ -1,42 +1,34 @@
 -- Laws of bits and fields, over lists of numbers. Where no bound on a byte is asked, the list need not be of bytes.
-use mathlib.Core.Path.{◌≡◌, refl, sym, ap, ap₂, subst, ◌∙◌}
-use mathlib.Core.Logic.{◌≢◌, ◌⊎◌, inl, inr}
-use mathlib.Core.Bool.{Bool, true, false, ◌&&◌}
-use mathlib.Core.List.{List, ◌++◌}
-use Prim.Native.Nat.{ℕ, zero, suc, ◌+◌, ◌-◌, ◌*◌, ◌/◌, ◌%◌, ◌^◌, ◌≤◌, ◌<◌}
-use native.Mathlib.Nat.{zero-lt-suc, le_dest, add-zero, add-suc, pow-suc, zero-div, mod-lt, div-one, div-eq_of_lt}
-use native.Mathlib.Nat.{mod-eq_of_lt, mul-le-mul_right, mul-add-div_right, mod-le, le_trans, div-mul-le_self, mul-add-mod_self_right}
-use native.Mathlib.Decide.{ℕ_discrete, dec_lt}
-use native.Mathlib.Omega.{arith}
-use lib.ListN.{length, get_or, set, take, replicate, length-set, get_or-eq_default, get_or-append}
-use lib.Seq.{get_or-set_same, get_or-set_other, set_out, set-get_or, get_or-take, get_or-append-add, ext_get_or}
+use Rattle.std.proofs.Common.{◌≡◌, refl, sym, ap, ap₂, subst, ◌∙◌, ◌≢◌, ◌⊎◌, inl, inr, true, List, [], ◌∷◌, ◌++◌, ℕ, zero}
+use Rattle.std.proofs.Common.{suc, ◌+◌, ◌-◌, ◌*◌, ◌/◌, ◌%◌, ◌^◌, ◌≤◌, ◌<◌, zero-lt-suc, add-zero, add-suc, pow-suc, mod-lt}
+use Rattle.std.proofs.Common.{div-one, mul-le-mul_right, arith, length, get_or, set, take}
+use Rattle.std.proofs.Common.{replicate, length-set, get_or-set_same, get_or-set_other, get_or-take, ext_get_or, pow_mono}
+use Rattle.std.proofs.Common.{pow_pos, pow-add, shr_lt, shr-shr, le-leb, leb-true, lt-ltb, Some, w64, get_or-append-add}
+use Rattle.std.proofs.Common.{length-take-le, drop-drop, append_assoc, append-nil, drop-cons, suc-add, drop}
+use Rattle.std.proofs.lemmas.List.{set-append_left, set-append_right, set_at, drop_all}
+use Rattle.std.proofs.lemmas.List.Edits.{get_or-between, split_between, length-between}
+use Rattle.std.proofs.lemmas.Nat.Bits.{bit_at_cat_low, bit_at_cat_high, same_from_bits_below}
+use Rattle.std.proofs.lemmas.Slice.{between_to_end}
+use Rattle.std.specs.Int.{bit_at, byte_at, bytes_high_first, to_be_bytes}
+use Rattle.std.specs.List.{between}
+use borrow.Rule.Slice.PartMut.{put_mid}
 use lib.Arith.{digits_lt, digits_mod}
-use lib.Pow.{pow_pos, pow-add, shr_lt, shr-shr, split, high, low, mod-pow-add, mod-mod-pow, field as Pow·field}
-use lib.Dec.{leb}
-use borrow.Author.Tests.{le-leb, leb-true, lt-ltb}
-use Rattle.bits.specs.Field.{bit, field, within, byte_with, put_bit, put_field, Bytes}
-use Rattle.bits.specs.Field.{widest, served, taken_of, number_of, field_fits, wrote_field}
-use Rattle.bits.specs.declared.Taken.TheVariants.{Number}
+use lib.ListN.{get_or-append}
+use lib.Pow.{split, high, low, mod-mod-pow, field as Pow·field}
+use lib.Seq.{set_out, set-get_or}
+use native.Mathlib.Decide.{ℕ_discrete, dec_lt}
+use native.Mathlib.Nat.{pow-succ', div-div-eq-div-mul, le_dest, zero-div, div-eq_of_lt}
+use Rattle.bits.specs.Field.{bit, field, within, byte_with, put_bit, put_field, Bytes, widest, served, taken_of, number_of}
+use Rattle.bits.specs.Field.{field_fits, wrote_field}
 
 -- ---- one binary digit of a number
-
--- what stands above a digit does not change it
-digit_low : (h l j d : ℕ) → (h * 2 ^ (suc d + j) + l) / 2 ^ j % 2 ≡ l / 2 ^ j % 2
-digit_low h l j d =
-    let e : h * 2 ^ (suc d + j) ≡ h * 2 ^ d * 2 * 2 ^ j
-    = omega (arith, ap (λ (x : ℕ). h * x) (pow-add 2 (suc d) j), ap (λ (x : ℕ). h * (x * 2 ^ j)) (pow-suc 2 d)) in
-    ap (λ (x : ℕ). (x + l) / 2 ^ j % 2) e
-    ∙ ap (λ (x : ℕ). x % 2) (mul-add-div_right (pow_pos j) (h * 2 ^ d * 2) l)
-    ∙ mul-add-mod_self_right (h * 2 ^ d) 2 (l / 2 ^ j)
 
 module _ (x k b : ℕ) (two : b < 2) where
   low-lt : b * 2 ^ k + x % 2 ^ k < 2 ^ suc k
   low-lt = omega (arith, mul-le-mul_right {m = b} {n = 1} (2 ^ k) (omega arith), mod-lt x (pow_pos k), pow-suc 2 k)
 
-  byte_high : byte_with x k b / 2 ^ suc k ≡ x / 2 ^ suc k
-  byte_high =
-      ap (λ (y : ℕ). y / 2 ^ suc k) (omega arith)
-      ∙ high (x / 2 ^ suc k) (suc k) low-lt
+  byte_high : byte_with x k b ≡ x / 2 ^ suc k * 2 ^ suc k + (b * 2 ^ k + x % 2 ^ k)
+  byte_high = omega arith
 
   byte_low : byte_with x k b ≡ (x / 2 ^ suc k * 2 + b) * 2 ^ k + x % 2 ^ k
   byte_low = omega (arith, ap (λ (p : ℕ). x / 2 ^ suc k * p) (pow-suc 2 k))
@@ -50,20 +42,16 @@ module _ (x k b : ℕ) (two : b < 2) where
   digit-other : (j : ℕ) → j ≢ k → byte_with x k b / 2 ^ j % 2 ≡ x / 2 ^ j % 2
   digit-other j ne = elim (dec_lt j k) [
     | yes l ↦
-        let d : ℕ = (le_dest l).0 in
-        let e : suc d + j ≡ k = omega (arith, (le_dest l).1) in
-        let cut : (h : ℕ) → (h * 2 ^ k + x % 2 ^ k) / 2 ^ j % 2 ≡ x % 2 ^ k / 2 ^ j % 2
-        = λ h. subst (λ (m : ℕ). (h * 2 ^ m + x % 2 ^ k) / 2 ^ j % 2 ≡ x % 2 ^ k / 2 ^ j % 2) e (digit_low h (x % 2 ^ k) j d) in
-        ap (λ (y : ℕ). y / 2 ^ j % 2) byte_low
-        ∙ cut (x / 2 ^ suc k * 2 + b)
-        ∙ sym (cut (x / 2 ^ k))
-        ∙ ap (λ (y : ℕ). y / 2 ^ j % 2) (split x k)
+        ap (λ (y : ℕ). bit_at y j) byte_low
+        ∙ bit_at_cat_low (x / 2 ^ suc k * 2 + b) k (x % 2 ^ k) j l
+        ∙ sym (bit_at_cat_low (x / 2 ^ k) k (x % 2 ^ k) j l)
+        ∙ ap (λ (y : ℕ). bit_at y j) (split x k)
     | no n ↦
-        let l : k < j = omega arith in
-        let d : ℕ = (le_dest l).0 in
-        subst (λ (m : ℕ). byte_with x k b / 2 ^ m % 2 ≡ x / 2 ^ m % 2) (le_dest l).1
-        (ap (λ (y : ℕ). y % 2)
-        (sym (shr-shr (byte_with x k b) (suc k) d) ∙ ap (λ (y : ℕ). y / 2 ^ d) byte_high ∙ shr-shr x (suc k) d))
+        let l : suc k ≤ j = omega arith in
+        ap (λ (y : ℕ). bit_at y j) byte_high
+        ∙ bit_at_cat_high (x / 2 ^ suc k) (suc k) (b * 2 ^ k + x % 2 ^ k) j low-lt l
+        ∙ sym (bit_at_cat_high (x / 2 ^ suc k) (suc k) (x % 2 ^ suc k) j (mod-lt x (pow_pos (suc k))) l)
+        ∙ ap (λ (y : ℕ). bit_at y j) (split x (suc k))
   ]
 
   -- a byte stays a byte
@@ -74,15 +62,6 @@ module _ (x k b : ℕ) (two : b < 2) where
       let top : 2 ^ j * 2 ^ suc k ≡ 256 = sym (pow-add 2 j (suc k)) ∙ ap (λ (m : ℕ). 2 ^ m) e in
       let q : x / 2 ^ suc k < 2 ^ j = shr_lt j (suc k) (rw (pow-add, top) h) in
       omega (arith, digits_lt q low-lt, top)
-
--- the low k digits of a number are told by the digits
-digits-eq : (x y k : ℕ) → ((j : ℕ) → j < k → x / 2 ^ j % 2 ≡ y / 2 ^ j % 2) → x % 2 ^ k ≡ y % 2 ^ k
-digits-eq x y zero h = omega arith
-digits-eq x y (suc k) h =
-    let a : x % 2 ^ k ≡ y % 2 ^ k = digits-eq x y k (λ j l. h j (omega arith)) in
-    let e : 1 + k ≡ suc k = omega arith in
-    subst (λ (m : ℕ). x % 2 ^ m ≡ y % 2 ^ m) e
-    (mod-pow-add x 1 k ∙ ap₂ (λ (u v : ℕ). u * 2 ^ k + v) (h k (omega arith)) a ∙ sym (mod-pow-add y 1 k))
 
 -- ---- bits
 
@@ -124,11 +103,6 @@ bytes-put_bit s i b two h j = elim (stored s (i / 8) (byte_with (get_or s (i / 8
   | inl e ↦ rw e.1 (byte-lt (get_or s (i / 8) 0) (7 - i % 8) b two (omega arith) (h (i / 8)))
 ]
 
--- a byte past the end is 0, and so are its bits
-pub bit_past : (s : List ℕ) (i : ℕ) → 8 * length s ≤ i → bit s i ≡ 0
-unfolding bit
-bit_past s i h = rw (get_or-eq_default s 0 {n = i / 8} (omega arith), zero-div) refl
-
 zeros : (n i : ℕ) → get_or {A = ℕ} (replicate n 0) i 0 ≡ 0
 zeros zero i = refl
 zeros (suc n) zero = refl
@@ -142,13 +116,6 @@ pub bit-append : (s t : List ℕ) (i : ℕ) → i < 8 * length s → bit (s ++ t
 unfolding bit
 bit-append s t i h = rw (get_or-append s t 0 (i / 8) (omega arith))
 
-pub bit-append-past : (s t : List ℕ) (i : ℕ) → bit (s ++ t) (8 * length s + i) ≡ bit t i
-unfolding bit
-bit-append-past s t i =
-    let q : (8 * length s + i) / 8 ≡ length s + i / 8 = omega arith in
-    let r : (8 * length s + i) % 8 ≡ i % 8 = omega arith in
-    rw (q, r, get_or-append-add s t (i / 8) 0)
-
 pub bit-take : (s : List ℕ) (n i : ℕ) → i < 8 * n → bit (take n s) i ≡ bit s i
 unfolding bit
 bit-take s n i h = rw (get_or-take n s (i / 8) 0 (omega arith))
@@ -159,14 +126,10 @@ pub bits-eq : (s t : List ℕ) → Bytes s → Bytes t → length s ≡ length t
 unfolding bit
 bits-eq s t hs ht e h =
     ext_get_or 0 s t e (λ n l.
-    sym (mod-eq_of_lt (hs n))
-    ∙ digits-eq (get_or s n 0) (get_or t n 0) 8 (λ j m.
+    same_from_bits_below 8 (get_or s n 0) (get_or t n 0) (hs n) (ht n) (λ j m.
     let q : (8 * n + (7 - j)) / 8 ≡ n = omega arith in
     let r : 7 - (8 * n + (7 - j)) % 8 ≡ j = omega arith in
-    subst (λ (u : ℕ). get_or s u 0 / 2 ^ j % 2 ≡ get_or t u 0 / 2 ^ j % 2) q
-    (subst (λ (u : ℕ). get_or s ((8 * n + (7 - j)) / 8) 0 / 2 ^ u % 2 ≡ get_or t ((8 * n + (7 - j)) / 8) 0 / 2 ^ u % 2) r
-    (h (8 * n + (7 - j)) (omega arith))))
-    ∙ mod-eq_of_lt (ht n))
+    rw (q, r) at (h (8 * n + (7 - j)) (omega arith))))
 
 -- ---- fields
 
@@ -174,6 +137,10 @@ pub field_lt : (s : List ℕ) (at w : ℕ) → field s at w < 2 ^ w
 unfolding field
 field_lt s at zero = omega arith
 field_lt s at (suc w) = omega (arith, field_lt s at w, bit-lt s (at + w), pow-suc 2 w)
+
+pub no_field : (s : List ℕ) (at w : ℕ) → w ≡ 0 → 0 ≡ field s at w
+unfolding field
+no_field s at w e = rw e
 
 -- bits that are equal one by one, at two places
 pub field-same : (s t : List ℕ) (a b w : ℕ) → ((k : ℕ) → k < w → bit s (a + k) ≡ bit t (b + k)) → field s a w ≡ field t b w
@@ -281,13 +248,27 @@ byte_high_bits s n (suc w) d l e =
 pub field-byte : (s : List ℕ) (n : ℕ) → get_or s n 0 < 256 → field s (8 * n) 8 ≡ get_or s n 0
 field-byte s n l = byte_high_bits s n 8 0 l refl ∙ div-one (get_or s n 0)
 
--- a field of bytes, and one byte more
-pub field-more : (s : List ℕ) (n k : ℕ) → get_or s (n + k) 0 < 256
-    → field s (8 * n) (8 * (k + 1)) ≡ 256 * field s (8 * n) (8 * k) + get_or s (n + k) 0
-field-more s n k l =
+-- the first bytes, and one byte more
+pub field_more : (s : List ℕ) (k : ℕ) → get_or s k 0 < 256
+    → field s 0 (8 * (k + 1)) ≡ 256 * field s 0 (8 * k) + get_or s k 0
+field_more s k l =
     let e : 8 * (k + 1) ≡ 8 * k + 8 = omega arith in
-    let f : 8 * n + 8 * k ≡ 8 * (n + k) = omega arith in
-    rw (e, field-split s (8 * n) (8 * k) 8, f, field-byte s (n + k) l) (omega arith)
+    let z : 0 + 8 * k ≡ 8 * k = omega arith in
+    rw (e, field-split s 0 (8 * k) 8, z, field-byte s k l) (omega arith)
+
+-- the number in fewer than eight bytes has room for one more
+pub few_bytes : (s : List ℕ) (k : ℕ) → k < 8 → field s 0 (8 * k) < 2 ^ 56
+few_bytes s k l = omega (arith, field_lt s 0 (8 * k), pow_mono {i = 8 * k} {j = 56} (omega arith))
+
+-- a field of some of the bytes
+pub field_between : (s : List ℕ) (i j at w : ℕ) → 8 * i ≤ at → at + w ≤ 8 * j
+    → field (between i j s) (at - 8 * i) w ≡ field s at w
+unfolding bit
+field_between s i j at w l h =
+    field-same (between i j s) s (at - 8 * i) at w (λ k m.
+    let q : (at + k) / 8 ≡ i + (at - 8 * i + k) / 8 = omega arith in
+    let r : (at + k) % 8 ≡ (at - 8 * i + k) % 8 = omega arith in
+    rw (q, r, get_or-between s i j ((at - 8 * i + k) / 8) 0 (omega arith)))
 
 -- the digits above the last t, and of those the last w
 cut : (s : List ℕ) (a r w t : ℕ) → field s a (r + w + t) / 2 ^ t % 2 ^ w ≡ field s (a + r) w
@@ -348,18 +329,104 @@ put_byte s bytes n v l small =
           ∙ sym (get_or-set_other s n m v 0 o)
     ])
 
--- a field of bytes that is written, and one byte more
-pub put-more : (s : List ℕ) → Bytes s → (n k v : ℕ) → n + k < length s
-    → set (put_field s (8 * n) (8 * k) (v / 256)) (n + k) (v % 256) ≡ put_field s (8 * n) (8 * (k + 1)) v
-put-more s bytes n k v l =
-    let p : List ℕ = put_field s (8 * n) (8 * k) (v / 256) in
-    let same : length p ≡ length s = length-put_field s (8 * n) (8 * k) (v / 256) in
-    let e : 8 * k + 8 ≡ 8 * (k + 1) = omega arith in
-    let f : 8 * (n + k) ≡ 8 * n + 8 * k = omega arith in
-    sym (put_byte p (bytes-put_field s (8 * n) (8 * k) (v / 256) bytes) (n + k) (v % 256) (omega arith) (omega arith))
-    ∙ ap (λ (i : ℕ). put_field p i 8 (v % 256)) f
-    ∙ sym (put_field-split s (8 * n) (8 * k) 8 v)
-    ∙ ap (λ (m : ℕ). put_field s (8 * n) m v) e
+-- the last bytes of a number, and one more
+byte-up : (k v : ℕ) → byte_at (suc k) v ≡ byte_at k (v / 256)
+byte-up zero v = refl
+byte-up (suc k) v = rw (pow-succ' 256 (suc k), ← div-div-eq-div-mul v 256 (256 ^ suc k))
+
+high_first-more : (k v : ℕ) → bytes_high_first (suc k) v ≡ bytes_high_first k (v / 256) ++ (v % 256 ∷ [])
+high_first-more zero v = refl
+high_first-more (suc k) v = ap₂ (λ (b : ℕ) (bs : List ℕ). b ∷ bs) (byte-up k v) (high_first-more k v)
+
+length-high_first : (k v : ℕ) → length (bytes_high_first k v) ≡ k
+length-high_first zero v = refl
+length-high_first (suc k) v = ap suc (length-high_first k v)
+
+drop-high_first : (k n v : ℕ) → drop k (bytes_high_first (k + n) v) ≡ bytes_high_first n v
+drop-high_first zero n v = ap (λ (m : ℕ). bytes_high_first m v) (omega arith)
+drop-high_first (suc k) n v = rw suc-add (drop-high_first k n v)
+
+-- what writing a number to the first bytes leaves: its bytes, the highest first
+put_bytes : (s : List ℕ) → Bytes s → (k v : ℕ) → k ≤ length s
+    → put_field s 0 (8 * k) v ≡ bytes_high_first k v ++ drop k s
+unfolding put_field
+put_bytes s bytes zero v l = refl
+put_bytes s bytes (suc k) v l =
+    let p : List ℕ = put_field s 0 (8 * k) (v / 256) in
+    let e : 8 * suc k ≡ 8 * k + 8 = omega arith in
+    let z : 0 + 8 * k ≡ 8 * k = omega arith in
+    let long : length p ≡ length s = length-put_field s 0 (8 * k) (v / 256) in
+    let high : List ℕ = bytes_high_first k (v / 256) in
+    rw (e, put_field-split s 0 (8 * k) 8 v, z)
+    (put_byte p (bytes-put_field s 0 (8 * k) (v / 256) bytes) k (v % 256) (omega (arith, long)) (omega arith)
+    ∙ ap (λ (q : List ℕ). set q k (v % 256)) (put_bytes s bytes k (v / 256) (omega arith))
+    ∙ ap (λ (q : List ℕ). set (high ++ q) k (v % 256)) (drop-cons s k 0 l)
+    ∙ set_at high (get_or s k 0) (drop (suc k) s) (v % 256) k (length-high_first k (v / 256))
+    ∙ sym (append_assoc high (v % 256 ∷ []) (drop (suc k) s))
+    ∙ ap (λ (q : List ℕ). q ++ drop (suc k) s) (sym (high_first-more k v)))
+
+-- a number in all of at most eight bytes: the last of its own
+pub put_all : (s : List ℕ) → Bytes s → (v : ℕ) → length s ≤ 8
+    → between (8 - length s) 8 (to_be_bytes w64 v) ≡ put_field s 0 (8 * length s) v
+put_all s bytes v l =
+    let n : ℕ = length s in
+    let e : 8 ≡ 8 - n + n = omega arith in
+    between_to_end (to_be_bytes w64 v) (8 - n) 8 (omega arith)
+    ∙ ap (λ (m : ℕ). drop (8 - n) (bytes_high_first m v)) e
+    ∙ drop-high_first (8 - n) n v
+    ∙ sym
+    (
+    put_bytes s bytes n v (omega arith)
+    ∙ ap (λ (q : List ℕ). bytes_high_first n v ++ q) (drop_all n s (omega arith))
+    ∙ append-nil (bytes_high_first n v)
+    )
+
+-- a field of some of the bytes that is written
+put_bit-beside : (a m z : List ℕ) (i b : ℕ) → i < 8 * length m
+    → put_bit (a ++ (m ++ z)) (8 * length a + i) b ≡ a ++ (put_bit m i b ++ z)
+unfolding put_bit
+put_bit-beside a m z i b h =
+    let q : (8 * length a + i) / 8 ≡ length a + i / 8 = omega arith in
+    let r : (8 * length a + i) % 8 ≡ i % 8 = omega arith in
+    let x : ℕ = byte_with (get_or m (i / 8) 0) (7 - i % 8) b in
+    let n : length a + i / 8 - length a ≡ i / 8 = omega arith in
+    rw (
+      q,
+      r,
+      get_or-append-add a (m ++ z) (i / 8) 0,
+      get_or-append m z 0 (i / 8) (omega arith),
+      set-append_right a (m ++ z) (length a) (length a + i / 8) x refl (omega arith),
+      n,
+      set-append_left m z (i / 8) x (omega arith),
+    )
+
+put_field-beside : (a m z : List ℕ) (at w v : ℕ) → at + w ≤ 8 * length m
+    → put_field (a ++ (m ++ z)) (8 * length a + at) w v ≡ a ++ (put_field m at w v ++ z)
+unfolding put_field
+put_field-beside a m z at zero v h = refl
+put_field-beside a m z at (suc w) v h =
+    let p : List ℕ = put_field m at w (v / 2) in
+    let q : 8 * length a + at + w ≡ 8 * length a + (at + w) = omega arith in
+    let long : length p ≡ length m = length-put_field m at w (v / 2) in
+    rw (put_field-beside a m z at w (v / 2) (omega arith), q) (put_bit-beside a p z (at + w) (v % 2) (omega arith))
+
+pub put_none : (s : List ℕ) (at w v : ℕ) → w ≡ 0 → s ≡ put_field s at w v
+unfolding put_field
+put_none s at w v e = rw e
+
+pub put_between : (s : List ℕ) (i j at w v : ℕ) → i ≤ j → j ≤ length s → 8 * i ≤ at → at + w ≤ 8 * j
+    → put_mid i (j - i) s (put_field (between i j s) (at - 8 * i) w v) ≡ put_field s at w v
+put_between s i j at w v le inside l h =
+    let a : List ℕ = take i s in
+    let b : List ℕ = between i j s in
+    let front : length a ≡ i = length-take-le i s (omega arith) in
+    let mid : length b ≡ j - i = length-between s i j inside in
+    let e : 8 * length a + (at - 8 * i) ≡ at = omega arith in
+    let f : i + (j - i) ≡ j = omega arith in
+    let behind : drop (j - i) (drop i s) ≡ drop j s = drop-drop (j - i) i s ∙ ap (λ (m : ℕ). drop m s) f in
+    ap (λ (q : List ℕ). a ++ (put_field b (at - 8 * i) w v ++ q)) behind
+    ∙ sym (put_field-beside a b (drop j s) (at - 8 * i) w v (omega arith))
+    ∙ ap₂ (λ (q : List ℕ) (m : ℕ). put_field q m w v) (sym (split_between s i j le)) e
 
 module _ (s : List ℕ) (a r w t v : ℕ) where
   abbrev all : ℕ
@@ -417,9 +484,6 @@ module _ (s : List ℕ) (a c at w t : ℕ) (starts : a ≤ at) (ends : at + w + 
   pub part_at : {n p : ℕ} → p ≡ n / 2 ^ t % 2 ^ w → n ≡ whole → p ≡ field s at w
   part_at e r = e ∙ ap (λ (n : ℕ). n / 2 ^ t % 2 ^ w) r ∙ field_cut
 
-  pub old-le : whole / 2 ^ t % 2 ^ w * 2 ^ t ≤ whole
-  old-le = le_trans (mul-le-mul_right (2 ^ t) (mod-le (whole / 2 ^ t) (2 ^ w))) (div-mul-le_self whole (2 ^ t))
-
   -- its old digits are taken away, and those of v are added
   module _ (v : ℕ) (small : v < 2 ^ w) where
     abbrev new : ℕ → ℕ
@@ -442,33 +506,16 @@ module _ (s : List ℕ) (a c at w t : ℕ) (starts : a ≤ at) (ends : at + w + 
 pub within-le : (s : List ℕ) (at w : ℕ) → within s at w ≡ true → at + w ≤ 8 * length s
 within-le s at w e = leb-true (at + w) (8 * length s) e
 
-first-of_both : (a b : Bool) → (a && b) ≡ true → a ≡ true
-first-of_both true b e = refl
-first-of_both false b e = e
-
--- what is served
-module _ (s : List ℕ) (at w : ℕ) (is : served s at w ≡ true) where
-  pub served-narrow : w ≤ widest
-  served-narrow = leb-true w widest (first-of_both (leb w widest) (within s at w) is)
-
-  pub served-inside : at + w ≤ 8 * length s
-  served-inside =
-      let e : served s at w ≡ within s at w = rw (le-leb w widest served-narrow) in
-      within-le s at w (sym e ∙ is)
-
 -- where the field is served
 module _ (s : List ℕ) (at w : ℕ) (narrow : w ≤ widest) (inside : at + w ≤ 8 * length s) where
   pub served-true : served s at w ≡ true
   served-true = rw (le-leb w widest narrow) (le-leb (at + w) (8 * length s) inside)
 
-  pub taken_of-number : taken_of s at w ≡ Number (field s at w)
+  pub taken_of-number : taken_of s at w ≡ Some (field s at w)
   taken_of-number = rw served-true
 
-  pub number_is : number_of (taken_of s at w) ≡ field s at w
-  number_is = ap number_of taken_of-number
-
   pub number_at : {r : ℕ} → r ≡ number_of (taken_of s at w) → r ≡ field s at w
-  number_at e = e ∙ number_is
+  number_at e = e ∙ ap number_of taken_of-number
 
   pub field_fits-true : (v : ℕ) → v < 2 ^ w → field_fits s at w v ≡ true
   field_fits-true v l = rw served-true (lt-ltb v (2 ^ w) l)

@@ -1,7 +1,5 @@
 -- Fields of bits in bytes, most significant bit first.
-use Rattle.std.specs.Prelude.{List, Bool, ◌&&◌, cond, ℕ, zero, suc, ◌+◌, ◌-◌, ◌*◌, ◌/◌, ◌%◌, ◌^◌, ◌<◌, length, get_or, set, leb, ltb}
-use Rattle.bits.specs.declared.Taken.{Taken}
-use Rattle.bits.specs.declared.Taken.TheVariants.{Number, Nothing}
+use Rattle.std.specs.Prelude.{List, Bool, Option, Some, None, ◌&&◌, cond, ℕ, zero, suc, ◌+◌, ◌-◌, ◌*◌, ◌/◌, ◌%◌, ◌^◌, ◌<◌, length, get_or, set, leb, ltb}
 
 -- bit i of a byte string: bit 0 is the most significant of byte 0
 unfoldable pub bit : List ℕ → ℕ → ℕ
@@ -42,13 +40,13 @@ abbrev pub served : List ℕ → ℕ → ℕ → Bool
 served s at w = leb w widest && within s at w
 
 -- what reading a field finds
-abbrev pub taken_of : List ℕ → ℕ → ℕ → Taken
-taken_of s at w = cond (served s at w) (Number (field s at w)) Nothing
+abbrev pub taken_of : List ℕ → ℕ → ℕ → Option ℕ
+taken_of s at w = cond (served s at w) (Some (field s at w)) None
 
 -- the number that was found, and 0 where nothing was
-abbrev pub number_of : Taken → ℕ
-number_of (Number n) = n
-number_of Nothing = 0
+abbrev pub number_of : Option ℕ → ℕ
+number_of (Some n) = n
+number_of None = 0
 
 -- the number v can be written to the field
 abbrev pub field_fits : List ℕ → ℕ → ℕ → ℕ → Bool

@@ -8,17 +8,11 @@ ghost use Rattle.bits.specs.Around.{Around};
 // The widest field that is served.
 pub const WIDEST: usize = 57;
 
-// What reading a field finds: its number, or nothing where the bits go past the end or the width is not served.
-#[derive(Clone, Copy)]
-pub enum Taken {
-    Number(u64),
-    Nothing,
-}
-
+// Callers use std's `usize::from`; it stays, since docs/CONTRACTS.md names it with its wrong programs.
 pub fn wide(x: u8) -> usize
     ensures { result ≡ x }
 {
-    x as usize
+    usize::from(x)
 }
 
 fn trim(n: u64, behind: usize, width: usize) -> u64
@@ -42,13 +36,11 @@ pub fn part(n: u64, behind: usize, width: usize) -> u64
     trim(n, behind, width)
 }
 
-// Puts every byte to v.
+// Puts every byte to v. Callers use std's `fill`; it stays for the same reason.
 pub fn fill(s: &mut [u8], v: u8)
     ensures { s.new ≡ replicate (length s.old) v }
 {
-    for i in 0..s.len() {
-        s[i] = v;
-    }
+    s.fill(v);
 }
 
 // Whether the width bits from bit at are all there. Counts in bytes, since at + width can be past the largest usize.
@@ -61,30 +53,28 @@ pub fn holds(s: &[u8], at: usize, width: usize) -> bool
 fn serves(s: &[u8], at: usize, width: usize) -> bool
     ensures { result ≡ served s.now at width }
 {
-    if width > WIDEST {
-        return false;
-    }
-    holds(s, at, width)
+    width <= WIDEST && holds(s, at, width)
 }
 
-// The number in `count` bytes.
-fn gather(s: &[u8], first: usize, count: usize) -> u64
-    requires { (count ≤ 8) × (first + count ≤ length s.now) }
-    ensures { result ≡ field s.now (8 * first) (8 * count) }
+// The number in the bytes.
+#[tactic(auto, using(crate::proofs::Laws::no_field, crate::proofs::Laws::few_bytes, crate::proofs::Laws::field_more))]
+fn gather(bytes: &[u8]) -> u64
+    requires { length bytes.now ≤ 8 }
+    ensures { result ≡ field bytes.now 0 (8 * length bytes.now) }
 {
     let mut n: u64 = 0;
-    for k in 0..count {
-        n = 256 * n + wide(s[first + k]) as u64;
+    for byte in bytes {
+        n = 256 * n + u64::from(*byte);
     }
     n
 }
 
-// The bits of `count` bytes that stand behind a field.
-fn behind(first: usize, count: usize, at: usize, width: usize) -> usize
-    requires { Around first count at width }
-    ensures { (result < 64) × (at + width + result ≡ 8 * (first + count)) }
+// The bits of `count` bytes that stand behind a field of them.
+fn behind(count: usize, at: usize, width: usize) -> usize
+    requires { Around 0 count at width }
+    ensures { (result < 64) × (at + width + result ≡ 8 * count) }
 {
-    8 * count - (at - 8 * first) - width
+    8 * count - at - width
 }
 
 // The first of eight bytes in which the field is.
@@ -92,22 +82,20 @@ fn first_of(len: usize, at: usize, width: usize) -> usize
     requires { (8 ≤ len) × (1 ≤ width) × (width ≤ widest) × (at + width ≤ 8 * len) }
     ensures { (result + 8 ≤ len) × Around result 8 at width }
 {
-    if at / 8 < len - 8 { at / 8 } else { len - 8 }
+    (at / 8).min(len - 8)
 }
 
 // The number in the field, from the bytes around it.
-fn found_in(s: &[u8], first: usize, count: usize, at: usize, width: usize) -> u64
-    requires { (first + count ≤ length s.now) × Around first count at width }
-    ensures { result ≡ field s.now at width }
+#[tactic(auto, using(crate::proofs::Laws::part_at))]
+fn found_in(bytes: &[u8], at: usize, width: usize) -> u64
+    requires { Around 0 (length bytes.now) at width }
+    ensures { result ≡ field bytes.now at width }
 {
-    trim(
-        gather(s, first, count),
-        behind(first, count, at, width),
-        width,
-    )
+    trim(gather(bytes), behind(bytes.len(), at, width), width)
 }
 
 // Eight bytes are gathered, and all where there are fewer: eight that are known to be there are read at once.
+#[tactic(auto, using(crate::proofs::Laws::no_field, crate::proofs::Laws::field_between))]
 fn found(s: &[u8], at: usize, width: usize) -> u64
     requires { (width ≤ widest) × (at + width ≤ 8 * length s.now) }
     ensures { result ≡ field s.now at width }
@@ -116,66 +104,77 @@ fn found(s: &[u8], at: usize, width: usize) -> u64
         return 0;
     }
     if s.len() < 8 {
-        return found_in(s, 0, s.len(), at, width);
+        return found_in(s, at, width);
     }
-    found_in(s, first_of(s.len(), at, width), 8, at, width)
+    let first = first_of(s.len(), at, width);
+    found_in(&s[first..first + 8], at - 8 * first, width)
 }
 
-// The number in the width bits from bit at.
-pub fn read(s: &[u8], at: usize, width: usize) -> Taken
+// The number in the width bits from bit at; nothing where they go past the end or the width is not served.
+pub fn read(s: &[u8], at: usize, width: usize) -> Option<u64>
     ensures { result ≡ taken_of s.now at width }
 {
-    if !serves(s, at, width) {
-        return Taken::Nothing;
+    if serves(s, at, width) {
+        Some(found(s, at, width))
+    } else {
+        None
     }
-    Taken::Number(found(s, at, width))
 }
 
 // The number in the field, and 0 where nothing is found.
+// 0 and no Option: its clause reads it by `number_of`, which is 0 of nothing.
 pub fn number(s: &[u8], at: usize, width: usize) -> u64
     ensures { result ≡ number_of (taken_of s.now at width) }
 {
-    match read(s, at, width) {
-        Taken::Number(n) => n,
-        Taken::Nothing => 0,
-    }
+    read(s, at, width).unwrap_or(0)
 }
 
-// Puts `count` bytes to the number.
-fn scatter(s: &mut [u8], first: usize, count: usize, n: u64)
-    requires { (count ≤ 8) × (first + count ≤ length s.old) × Bytes s.old }
-    ensures { s.new ≡ put_field s.old (8 * first) (8 * count) n }
+// Puts the bytes to the number.
+#[tactic(auto, using(crate::proofs::Laws::put_all))]
+fn scatter(bytes: &mut [u8], n: u64)
+    requires { (length bytes.old ≤ 8) × Bytes bytes.old }
+    ensures { bytes.new ≡ put_field bytes.old 0 (8 * length bytes.old) n }
 {
-    for k in 0..count {
-        s[first + k] = ((n >> (8 * (count - 1 - k))) % 256) as u8;
-    }
+    bytes.copy_from_slice(&n.to_be_bytes()[8 - bytes.len()..]);
 }
 
 // Writes the number to the field, in the bytes around it: its old digits are taken away, and the new ones added.
-fn put_in(s: &mut [u8], first: usize, count: usize, at: usize, width: usize, number: u64)
-    requires count_in_bounds { (first + count ≤ length s.old) × Around first count at width }
+fn put_in(bytes: &mut [u8], at: usize, width: usize, number: u64)
+    requires around { Around 0 (length bytes.old) at width }
     requires number_bound { number < 2 ^ width }
-    ensures { s.new ≡ put_field s.old at width number }
+    ensures { bytes.new ≡ put_field bytes.old at width number }
 {
-    let behind = behind(first, count, at, width);
-    let n = gather(s, first, count);
+    let behind = behind(bytes.len(), at, width);
+    let n = gather(bytes);
     let old = trim(n, behind, width);
-    scatter(s, first, count, n - (old << behind) + (number << behind));
+    scatter(bytes, n - (old << behind) + (number << behind));
 }
 
+// Out of line, so that the copy of bytes whose number is not known costs those of eight nothing.
+#[cold]
+#[inline(never)]
+fn put_few(bytes: &mut [u8], at: usize, width: usize, number: u64)
+    requires around { Around 0 (length bytes.old) at width }
+    requires number_bound { number < 2 ^ width }
+    ensures { bytes.new ≡ put_field bytes.old at width number }
+{
+    put_in(bytes, at, width, number);
+}
+
+#[tactic(auto, using(crate::proofs::Laws::put_none, crate::proofs::Laws::put_between))]
 fn put(s: &mut [u8], at: usize, width: usize, number: u64)
     requires { (width ≤ widest) × (at + width ≤ 8 * length s.old) × (number < 2 ^ width) }
     ensures { s.new ≡ put_field s.old at width number }
 {
-    let len = s.len();
     if width == 0 {
         return;
     }
-    if len < 8 {
-        put_in(s, 0, len, at, width, number);
+    if s.len() < 8 {
+        put_few(s, at, width, number);
         return;
     }
-    put_in(s, first_of(len, at, width), 8, at, width, number);
+    let first = first_of(s.len(), at, width);
+    put_in(&mut s[first..first + 8], at - 8 * first, width, number);
 }
 
 // Writes the number to the width bits from bit at, and says so; where it cannot, the bytes stay as they are.

@@ -1,6 +1,8 @@
-pub mod Stretches
+pub mod Ceil
+pub mod Read
+pub mod Those
 pub mod Hops
-pub mod Holding
 pub mod Wires
-pub mod Left
+pub mod Walk
+pub mod Order
 pub mod OneReply

@@ -1,88 +1,88 @@
--- What one stage of the bounds tells the next. `s` are the table's bytes.
-use Rattle.std.specs.Prelude.{◌≡◌, true, false, cond, List, ℕ, ◌+◌, ◌*◌, ◌^◌, ◌≤◌, ◌<◌, length, get_or}
+-- What one stage of the bounds tells the next. A table as read, `r`, has the view `t`.
+use Rattle.std.specs.Prelude.{◌≡◌, Bool, false, List, [], ℕ, ◌+◌, ◌*◌, ◌^◌, ◌≤◌, ◌<◌, length, get_or, eqb}
+use Rattle.std.specs.List.{All}
+use Rattle.rules.specs.declared.Channel.{Channel}
 use Rattle.rules.specs.declared.Table.{Table}
-use Rattle.rules.specs.Words.{begins, some}
-use Rattle.rules.specs.Price.{full_frame}
-use Rattle.rules.specs.Numbers.{wires_most, channels_most, hops_most}
-use Rattle.rules.specs.Table.{View, view_of}
-use Rattle.rules.specs.Bounds.{cost, times, part, on, load, jitter, known, burst}
+use Rattle.bounds.specs.declared.filing.Filed.{Filed}
+use Rattle.rules.specs.Words.{total, only, begins, some}
+use Rattle.rules.specs.Numbers.{wires_most, channels_most, prop_bits, room_bits}
+use Rattle.rules.specs.Table.{View}
+use Rattle.rules.specs.Bounds.{part, on, load}
 use Rattle.rules.specs.Sound.{Sound}
-use Rattle.rules.specs.Decoded.{column, table_of}
-use Rattle.bounds.specs.Filed.{Filing, Stretch, Raised}
+use Rattle.rules.specs.Decoded.{channel_of, table_of}
+use Rattle.bounds.specs.Filed.{filed_under, Holds}
 
--- a table as read
-pub record AsRead (s : List ℕ) (r : Table) : Type 0 where
-  pub sound : Sound (view_of s)
-  pub table : r ≡ table_of (view_of s)
+-- a table as read, whose wires' fields have their widths
+pub record AsRead (t : View) (r : Table) : Type 0 where
+  pub sound : Sound t
+  pub room_fits : (w : ℕ) → t.room w < 2 ^ room_bits
+  pub prop_fits : (w : ℕ) → t.prop w < 2 ^ prop_bits
+  pub table : r ≡ table_of t
 
--- of channel c the hops, the part of the load and the route
-pub record Hops (s : List ℕ) (c hops share : ℕ) (route : List ℕ) : Type 0 where
-  pub sound : Sound (view_of s)
-  pub less : c < (view_of s).channels
-  pub number : hops ≡ length ((view_of s).route c)
-  pub share_told : share ≡ part (view_of s) c
-  pub wire : (i : ℕ) → i < hops → get_or route (hops_most * c + i) 0 ≡ get_or ((view_of s).route c) i 0
+abbrev pub IsRead : Table → Type 0
+IsRead r = (t : View) × AsRead t r
 
--- the channels below c are filed under the wires of their routes
-abbrev pub FiledBelow : View → ℕ → List ℕ → List ℕ → List ℕ → Type 0
-FiledBelow t c list counts loads = Filing (on t) (part t) c (λ w. false) list counts loads
+-- the route of a channel below c begins with wire w
+abbrev pub first_of : View → ℕ → ℕ → Bool
+first_of t c w = some (λ k. begins w (t.route k)) c
 
-abbrev pub FiledTo : List ℕ → ℕ → List ℕ → List ℕ → List ℕ → Type 0
-FiledTo s c list counts loads = FiledBelow (view_of s) c list counts loads
+-- Channels below c are filed under the wires of their routes; channel c under those wires that are done.
+pub record FiledTo (t : View) (c : ℕ) (done : ℕ → Bool) (filed : List Filed) : Type 0 where
+  pub same_length : length filed ≡ wires_most
+  pub wire : (w : ℕ) (d : Filed) → w < wires_most → Holds (on t w) (part t) c (done w) (get_or filed w d)
+  pub first : (w : ℕ) (d : Filed) → w < wires_most → (get_or filed w d).first ≡ first_of t c w
 
-abbrev pub FiledAll : List ℕ → List ℕ → List ℕ → List ℕ → Type 0
-FiledAll s list counts loads = FiledTo s (view_of s).channels list counts loads
+abbrev pub FiledBelow : View → ℕ → List Filed → Type 0
+FiledBelow t c filed = FiledTo t c (λ w. false) filed
 
--- what Q-4's K goes by, of a wire: two full frames where the route of a channel below c begins with it, else one
-abbrev pub ahead_of : View → ℕ → ℕ → ℕ
-ahead_of t c w = cond (some (λ k. begins w (t.route k)) c) (2 * full_frame) full_frame
+-- channel k is to be filed
+pub record ToFile (t : View) (k : ℕ) (r : Channel) (filed : List Filed) : Type 0 where
+  pub sound : Sound t
+  pub less : k < t.channels
+  pub channel : r ≡ channel_of t k
+  pub before : FiledBelow t k filed
 
-pub record AheadBelow (t : View) (c : ℕ) (ahead : List ℕ) : Type 0 where
-  pub same_length : length ahead ≡ wires_most
-  pub told : (w : ℕ) → w < wires_most → get_or ahead w 0 ≡ ahead_of t c w
+-- a table as read, whose loads passed 12
+pub record ToWalk (t : View) (r : Table) : Type 0 where
+  pub read : AsRead t r
+  pub loads : (w : ℕ) → w < t.wires → load t w ≤ t.rate w * t.hyper
 
-abbrev pub AheadTo : List ℕ → ℕ → List ℕ → Type 0
-AheadTo s c ahead = AheadBelow (view_of s) c ahead
+abbrev pub channel_in : Table → ℕ → Channel
+channel_in r k = get_or r.channel k (record { price = 0; times = 0; deadline = 0; hops = 0; route = [] })
 
-abbrev pub AheadAll : List ℕ → List ℕ → Type 0
-AheadAll s ahead = AheadTo s (view_of s).channels ahead
+-- these are the prices of a table's channels
+abbrev pub Priced : Table → List ℕ → Type 0
+Priced r prices = (k : ℕ) → k < channels_most → get_or prices k 0 ≡ (channel_in r k).price
 
--- what test 12 goes by, of the first n wires
-pub record Loads (s loads rates : List ℕ) (hyper n : ℕ) : Type 0 where
-  pub number : n ≡ (view_of s).wires
-  pub most : n ≤ wires_most
-  pub load_told : (w : ℕ) → w < n → get_or loads w 0 ≡ load (view_of s) w
-  pub limit_told : (w : ℕ) → w < n → get_or rates w 0 * hyper ≡ (view_of s).rate w * (view_of s).hyper
-  pub limit_fits : (w : ℕ) → w < n → get_or rates w 0 * hyper < 2 ^ 64
+-- C × H + C × (H / P) × J of channel k
+abbrev pub share_in : Table → List ℕ → ℕ → ℕ
+share_in r jitters k =
+    (channel_in r k).price * r.hyper + (channel_in r k).price * (channel_in r k).times * get_or jitters k 0
 
--- the channels of wire w, of which there are `number`
-pub record OnWire (s : List ℕ) (w number : ℕ) (list : List ℕ) : Type 0 where
-  pub wire_at_most : w < wires_most
-  pub channels_at_most : (view_of s).channels ≤ channels_most
-  pub stretch : Stretch (on (view_of s) w) (view_of s).channels list (channels_most * w) number
+abbrev pub shares : Table → Filed → List ℕ → ℕ
+shares r f jitters = total (share_in r jitters) (filed_under f)
 
--- what the burst of wire w goes by
-pub record Gathers (s : List ℕ) (w hyper : ℕ) (prices often jitters : List ℕ) : Type 0 where
-  pub sound : Sound (view_of s)
-  pub hyper_told : hyper ≡ (view_of s).hyper
-  pub prices_told : prices ≡ column channels_most (view_of s).channels (cost (view_of s))
-  pub times_told : often ≡ column channels_most (view_of s).channels (times (view_of s))
-  pub jitter_told : (k : ℕ) → k < (view_of s).channels → on (view_of s) w k ≡ true
-      → get_or jitters k 0 ≡ jitter (view_of s) (known (view_of s) w) w k
-  pub small : burst (view_of s) (known (view_of s) w) w < 2 ^ 64
+-- what a channel's share is worked out from
+pub record Shared (r : Table) (k : ℕ) : Type 0 where
+  pub below : k < channels_most
+  pub part_fits : (channel_in r k).price * (channel_in r k).times < 2 ^ 64
 
--- each channel's entry can be raised by d
-pub record Spare (s : List ℕ) (d : ℕ) (a : List ℕ) : Type 0 where
-  pub same_length : length a ≡ channels_most
-  pub fits : (k : ℕ) → k < (view_of s).channels → get_or a k 0 + d < 2 ^ 64
+-- what a wire's burst is worked out from
+pub record Gathers (r : Table) (f : Filed) (jitters : List ℕ) : Type 0 where
+  pub room : f.count ≤ channels_most
+  pub channels : All (Shared r) (filed_under f)
+  pub small : shares r f jitters < 2 ^ 64
 
--- the entries of wire w's channels are raised by d
-abbrev pub RaisedBy : List ℕ → ℕ → ℕ → List ℕ → List ℕ → Type 0
-RaisedBy s w d before after = Raised (on (view_of s) w) (view_of s).channels d before after
+-- by how much entry k is raised, where each of these is raised by d
+abbrev pub raised_by : List ℕ → ℕ → ℕ → ℕ
+raised_by channels d k = total (λ x. only (eqb x k) d) channels
 
--- what is to be walked: the channels filed, what each wire may be held for, and loads that passed 12
-pub record ToWalk (s : List ℕ) (r : Table) (list counts ahead : List ℕ) : Type 0 where
-  pub read : AsRead s r
-  pub stretch : (w : ℕ) → w < wires_most → Stretch (on (view_of s) w) (view_of s).channels list (channels_most * w) (get_or counts w 0)
-  pub ahead_told : AheadAll s ahead
-  pub loads : (w : ℕ) → w < (view_of s).wires → load (view_of s) w ≤ (view_of s).rate w * (view_of s).hyper
+-- each of these channels' entries can be raised by d
+pub record Spare (channels : List ℕ) (d : ℕ) (a : List ℕ) : Type 0 where
+  pub below : All (λ k. k < channels_most) channels
+  pub fits : (k : ℕ) → k < channels_most → get_or a k 0 + raised_by channels d k < 2 ^ 64
+
+-- each of these channels' entries is raised by d
+pub record Raised (channels : List ℕ) (d : ℕ) (before after : List ℕ) : Type 0 where
+  pub same_length : length after ≡ length before
+  pub raised : (k : ℕ) → k < channels_most → get_or after k 0 ≡ get_or before k 0 + raised_by channels d k

@@ -8,8 +8,9 @@ use contract.Lifetimes.{Lfts}
 use denote.Triple.Clauses.{AtExit}
 use borrow.Fn.World.{ArgsD, ResD}
 use borrow.Fn.Kinds.{ended_of}
-use Rattle.rules.specs.declared.Judging.{Judging}
-use Rattle.rules.specs.declared.Judging.TheVariants as judging
+use Rattle.std.specs.Prelude.{Result, Ok, Err}
+use Rattle.rules.specs.declared.Refusal.{Refusal}
+use Rattle.rules.specs.declared.Refusal.TheVariants as refusal
 use Rattle.rules.specs.Replies.{judging_reply}
 use Rattle.rules.specs.Table.{view_of}
 use Rattle.rules.specs.Judgement.{judge as judged, buffer}
@@ -32,13 +33,13 @@ module _ (κs : Lfts 2) (a : ArgsD judge.signature κs) (r : ResD judge.signatur
   left = e.1.0.now
 
   pub promise-kept :
-      (len : ℕ) → r ≡ judging.Accepted len → (released : Releases) → Keeps (view_of table) released →
+      (len : ℕ) → r ≡ Ok len → (released : Releases) → Keeps (view_of table) released →
       (held : Holding) (run : Run (view_of table) released held) → Allowed run → Promised table (take len left) released held run
   promise-kept len is released keeps held run allowed =
       rw met.1 (promise table _ len (sym met.0 ∙ ap judging_reply is) released keeps held run allowed)
 
   -- a table and a lent length for which the definitions give one reply and one buffer
-  forced : (s : List ℕ) (lent : ℕ) (j : Judging) (bytes : List ℕ) → table ≡ s → length a.1.0.now ≡ lent
+  forced : (s : List ℕ) (lent : ℕ) (j : Result ℕ Refusal) (bytes : List ℕ) → table ≡ s → length a.1.0.now ≡ lent
       → (judged s lent ≡ judging_reply j) × (buffer s lent ≡ bytes) → (r ≡ j) × (left ≡ bytes)
   forced s lent j bytes is long h = (
     judging-one r j (met.0 ∙ ap₂ judged is long ∙ h.0),
@@ -47,9 +48,9 @@ module _ (κs : Lfts 2) (a : ArgsD judge.signature κs) (r : ResD judge.signatur
 
   -- Refusing everything, one fixed reply and an untouched sheet do not meet the contract.
   pub case_a_forced :
-      table ≡ case_a → length a.1.0.now ≡ 12 → (r ≡ judging.Accepted 12) × (left ≡ case_a_sheet)
-  case_a_forced is long = forced case_a 12 (judging.Accepted 12) _ is long case_a_lem
+      table ≡ case_a → length a.1.0.now ≡ 12 → (r ≡ Ok 12) × (left ≡ case_a_sheet)
+  case_a_forced is long = forced case_a 12 (Ok 12) _ is long case_a_lem
 
   pub case_a_late_forced :
-      table ≡ case_a_late → length a.1.0.now ≡ 12 → (r ≡ judging.Refused 14 0) × (left ≡ replicate 12 255)
-  case_a_late_forced is long = forced case_a_late 12 (judging.Refused 14 0) _ is long case_a_late_lem
+      table ≡ case_a_late → length a.1.0.now ≡ 12 → (r ≡ Err (refusal.Deadline 0)) × (left ≡ replicate 12 255)
+  case_a_late_forced is long = forced case_a_late 12 (Err (refusal.Deadline 0)) _ is long case_a_late_lem

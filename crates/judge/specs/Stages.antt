@@ -1,12 +1,22 @@
--- What the bounds tell the rest of the judgement. `s` are the table's bytes.
-use Rattle.std.specs.Prelude.{◌≡◌, List, ℕ, ◌≤◌, ◌<◌, get_or}
-use Rattle.rules.specs.Numbers.{channels_most}
-use Rattle.rules.specs.Table.{view_of}
-use Rattle.rules.specs.Bounds.{end_to_end}
+-- What the bounds tell the rest of the judgement.
+use Rattle.std.specs.Prelude.{◌≡◌, Bool, List, ℕ, take, ltb}
+use Rattle.std.specs.List.{zip}
+use Rattle.rules.specs.declared.Bounded.{Bounded}
+use Rattle.rules.specs.declared.Channel.{Channel}
+use Rattle.rules.specs.Table.{View}
+use Rattle.rules.specs.Sound.{Sound}
+use Rattle.rules.specs.Decoded.{table_of, figures_of}
 
--- what test 14 goes by, of the first m channels
-pub record Ends (s ends deadlines : List ℕ) (m : ℕ) : Type 0 where
-  pub number : m ≡ (view_of s).channels
-  pub most : m ≤ channels_most
-  pub end_told : (k : ℕ) → k < m → get_or ends k 0 ≡ end_to_end (view_of s) k
-  pub deadline_told : (k : ℕ) → k < m → get_or deadlines k 0 ≡ (view_of s).deadline k
+-- a table that was read, of the view t, and its figures
+pub record BoundsOf (t : View) (b : Bounded) : Type 0 where
+  pub sound : Sound t
+  pub table : b.table ≡ table_of t
+  pub figures : b.figures ≡ figures_of t
+
+-- each channel beside its end-to-end delay
+abbrev pub ends_of : Bounded → List (Channel × ℕ)
+ends_of b = zip (take b.table.channels b.table.channel) b.figures.end
+
+-- that is over its deadline
+abbrev pub is_late : Channel × ℕ → Bool
+is_late p = ltb p.0.deadline p.1

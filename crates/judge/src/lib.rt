@@ -1,74 +1,68 @@
 // Judging a table: its bounds, 14, 15, and the sheet.
 #![tactic(auto)]
 
-ghost use Rattle.std.specs.Prelude.{◌≡◌, length, replicate};
+ghost use Rattle.std.specs.Prelude.{◌≡◌, length, IfOk, position};
 ghost use Rattle.rules.specs.Replies.{judging_reply, Answered};
-ghost use Rattle.rules.specs.Table.{view_of};
+ghost use Rattle.rules.specs.Table.{View};
 ghost use Rattle.rules.specs.Judgement.{deadline_tests, judge as judged, buffer};
-ghost use Rattle.judge.specs.Stages.{Ends};
+ghost use Rattle.judge.specs.Stages.{BoundsOf, is_late, ends_of};
 
-use rules::{Bounded, Judging, Reading, Table, Written};
-
-const NO_ROOM: u64 = 15;
+use rules::{Bounded, Refusal};
 
 // What stands in every byte that is not the sheet's.
 const NO_SHEET: u8 = 255;
 
-// Every refusal fills the whole lent buffer and changes nothing else.
-fn refuse(sheet: &mut [u8], number: u64, place: u64) -> Judging
-    ensures value { result ≡ Judging.Refused number place }
-    ensures sheet_after { sheet.new ≡ replicate (length sheet.old) 255 }
+// The lowest channel whose end-to-end delay is over its deadline.
+// Shaped as test 12 in `bounds`: a function for both would be a public one, with an answer for arrays that are no table's.
+fn late(bounded: &Bounded) -> Option<usize>
+    ensures { result ≡ position is_late (ends_of bounded.now) }
 {
-    bits::fill(sheet, NO_SHEET);
-    Judging::Refused(number, place)
+    let channels = bounded.table.channel.iter().take(bounded.table.channels);
+    channels
+        .zip(&bounded.figures.end)
+        .position(|(channel, end)| u64::from(channel.deadline) < *end)
 }
 
-// 14: the lowest channel whose end-to-end delay is over its deadline. The slice `table` holds the bytes that these were worked
-// out from, for the contract: nothing reads them here.
-fn none_late(
-    table: &[u8],
-    end: &[u64; Table::CHANNELS_MOST],
-    deadline: &[u64; Table::CHANNELS_MOST],
-    m: usize,
-) -> Reading
-    requires { Ends table.now end.now deadline.now m }
-    ensures { Answered (deadline_tests (view_of table.now)) result }
+// Test 14.
+fn in_time(bounded: &Bounded) -> Result<(), Refusal>
+    ensures { (t : View) → BoundsOf t bounded.now → Answered (deadline_tests t) result }
 {
-    for k in 0..m {
-        if deadline[k] < end[k] {
-            return Reading::Refused(14, k as u64);
-        }
+    match late(bounded) {
+        Some(channel) => Err(Refusal::Deadline(channel)),
+        None => Ok(()),
     }
-    Reading::Read
 }
 
-// 14 of what the bounds are. Its arrays are on the stack only where those of the bounds no longer are.
-fn tested(table: &[u8], bounded: Bounded) -> Reading
-    requires { Ends table.now bounded.figures.end bounded.table.deadline bounded.table.channels }
-    ensures { Answered (deadline_tests (view_of table.now)) result }
+// The judgement, and the sheet where it accepts. Where it refuses, the buffer may hold anything.
+fn accept(table: &[u8], sheet: &mut [u8]) -> Result<usize, Refusal>
+    ensures result_value { judging_reply result ≡ judged table.now (length sheet.old) }
+    ensures sheet_after { IfOk result (λ n. sheet.new ≡ buffer table.now (length sheet.old)) }
 {
-    let end = bounded.figures.end;
-    let deadline = bounded.table.deadline;
-    none_late(table, &end, &deadline, bounded.table.channels)
+    // By reference: what `?` takes out of a Result is one more table on the stack.
+    let bounds = bounds::bounds(table);
+    match &bounds {
+        Ok(bounded) => {
+            in_time(bounded)?;
+            sheet::write(
+                sheet,
+                bounded.table.wires,
+                bounded.table.channels,
+                &bounded.figures,
+            )
+            .ok_or(Refusal::Buffer)
+        }
+        Err(refusal) => Err(*refusal),
+    }
 }
 
-pub fn judge(table: &[u8], sheet: &mut [u8]) -> Judging
+// Every refusal fills the whole lent buffer.
+pub fn judge(table: &[u8], sheet: &mut [u8]) -> Result<usize, Refusal>
     ensures result_value { judging_reply result ≡ judged table.now (length sheet.old) }
     ensures sheet_after { sheet.new ≡ buffer table.now (length sheet.old) }
 {
-    let bounded = bounds::bounds(table);
-    let bounding = bounded.answer;
-    if let Reading::Refused(number, place) = bounding {
-        return refuse(sheet, number, place);
+    let answer = accept(table, sheet);
+    if answer.is_err() {
+        sheet.fill(NO_SHEET);
     }
-    let figures = bounded.figures;
-    let timely = tested(table, bounded);
-    if let Reading::Refused(number, place) = timely {
-        return refuse(sheet, number, place);
-    }
-    let written = sheet::write(sheet, bounded.table.wires, bounded.table.channels, figures);
-    match written {
-        Written::Length(length) => Judging::Accepted(length),
-        Written::Nothing => Judging::Refused(NO_ROOM, 0),
-    }
+    answer
 }

@@ -1,4 +1,5 @@
 // What C links: each export is the function of magsurinda of the same name, with the same clauses.
+// The twins stay: C links a static library, and the laws of one reply need a library.
 #![tactic(auto)]
 
 ghost use Rattle.std.specs.Prelude.{◌≡◌, length};

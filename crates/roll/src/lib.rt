@@ -1,113 +1,90 @@
 // The label roll: the whole roll is tested, then a channel's label is handed back as a part of the caller's own roll.
+// Between usize and u64, of 64 bits each, `as` stands: there is no From, and `try_from` would answer an Err that cannot come.
 #![tactic(auto)]
 
-ghost use Rattle.std.specs.Prelude.{◌≡◌, ◌+◌, ◌≤◌, length, get_or};
-ghost use Rattle.rules.specs.Words.{between, every, only};
-ghost use Rattle.rules.specs.Numbers.{channels_most};
+ghost use Rattle.std.specs.Prelude.{◌≡◌};
+ghost use Rattle.std.specs.Bool.{then_some};
+ghost use Rattle.std.specs.List.{list_all};
+ghost use Rattle.rules.specs.Words.{between};
 ghost use Rattle.rules.specs.Replies.{label_reply};
-ghost use Rattle.rules.specs.Roll.{roll_longest, behind, length_at, sound_at, sound_labels, sound_roll, ask_label};
+ghost use Rattle.rules.specs.Roll.{labels, behind, length_at, sound_at, sound_labels, sound_roll, ask_label};
 ghost use Rattle.rules.specs.Roll.{stretch, stretch_start};
 ghost use Rattle.roll.specs.Place.{from};
 
-use rules::{AskedLabel, Table};
+use rules::{Refusal, Stretch, Table};
 
 // The longest label.
 const LABEL_MOST: usize = 24;
 
-// Whether `count` bytes are each from 32 to 126.
-fn printable(roll: &[u8], start: usize, count: usize) -> bool
-    requires { start + count ≤ length roll.now }
-    ensures { result ≡ every (λ i. between 32 (get_or roll.now (start + i) 0) 126) count }
+// Whether each byte is from 32 to 126.
+fn printable(label: &[u8]) -> bool
+    ensures { result ≡ list_all (λ byte. between 32 byte 126) label.now }
 {
-    for i in 0..count {
-        let byte = roll[start + i];
-        if byte < 32 {
-            return false;
-        }
-        if 126 < byte {
-            return false;
-        }
-    }
-    true
+    label.iter().all(|byte| (32..=126).contains(byte))
 }
 
-// Where the label ends whose length byte stands at `at`, and 0 where it has a fault.
-fn end_from(roll: &[u8], at: usize) -> usize
-    requires { at ≤ roll_longest }
-    ensures { result ≡ only (sound_at roll.now at) (behind roll.now at) }
+// Where the label ends whose length byte stands at `at`; nothing where it has a fault.
+fn end_from(roll: &[u8], at: usize) -> Option<usize>
+    ensures { result ≡ then_some (sound_at roll.now at) (behind roll.now at) }
 {
-    if roll.len() <= at {
-        return 0;
+    let count = usize::from(*roll.get(at)?);
+    if !(1..=LABEL_MOST).contains(&count) {
+        return None;
     }
-    let count = bits::wide(roll[at]);
-    if count < 1 {
-        return 0;
-    }
-    if LABEL_MOST < count {
-        return 0;
-    }
-    if roll.len() < at + 1 + count {
-        return 0;
-    }
-    if !printable(roll, at + 1, count) {
-        return 0;
-    }
-    at + 1 + count
+    let end = at + 1 + count;
+    let label = roll.get(at + 1..end)?;
+    printable(label).then_some(end)
 }
 
-// Where the first n labels end, and 0 where one of them has a fault.
-fn end_of(roll: &[u8], n: usize) -> usize
-    requires { n ≤ channels_most }
-    ensures { result ≡ only (sound_labels roll.now n) (length_at roll.now n) }
+// Where the first n labels end; nothing where one of them has a fault.
+fn end_of(roll: &[u8], n: usize) -> Option<usize>
+    ensures { result ≡ then_some (sound_labels roll.now n) (length_at roll.now n) }
 {
-    let mut at: usize = 1;
-    for k in 0..n {
-        let end = end_from(roll, at);
-        if end == 0 {
-            return 0;
-        }
-        at = end;
+    let mut at = 1;
+    // A loop: by `try_fold`, which was tried, the goal does not close.
+    for _ in 0..n {
+        at = end_from(roll, at)?;
     }
-    at
+    Some(at)
 }
 
-fn sound(roll: &[u8]) -> bool
-    ensures { result ≡ sound_roll roll.now }
+// How many labels a sound roll has.
+fn count_of(roll: &[u8]) -> Option<usize>
+    ensures { result ≡ then_some (sound_roll roll.now) (labels roll.now) }
 {
-    if roll.len() < 1 {
-        return false;
+    let count = usize::from(*roll.first()?);
+    if !(1..=Table::CHANNELS_MOST).contains(&count) {
+        return None;
     }
-    let count = bits::wide(roll[0]);
-    if count < 1 {
-        return false;
-    }
-    if Table::CHANNELS_MOST < count {
-        return false;
-    }
-    end_of(roll, count) == roll.len()
+    let end = end_of(roll, count)?;
+    (end == roll.len()).then_some(count)
 }
 
 // Asking for a label, by any number: 21, then 22.
-pub fn ask(roll: &[u8], number: u64) -> AskedLabel
+pub fn ask(roll: &[u8], number: u64) -> Result<Stretch, Refusal>
     ensures { label_reply result ≡ ask_label roll.now number }
 {
-    if !sound(roll) {
-        return AskedLabel::Refused(21, 0);
+    let count = count_of(roll).ok_or(Refusal::Roll)?;
+    let number = number as usize;
+    if count <= number {
+        return Err(Refusal::NotInRoll);
     }
-    if bits::wide(roll[0]) as u64 <= number {
-        return AskedLabel::Refused(22, 0);
-    }
-    let at = end_of(roll, number as usize);
-    AskedLabel::Stretch((at + 1) as u64, bits::wide(roll[at]) as u64)
+    // No label of a sound roll has a fault.
+    let at = end_of(roll, number).unwrap();
+    Ok(Stretch {
+        start: at + 1,
+        length: usize::from(roll[at]),
+    })
 }
 
 // The label itself, as the part of the lent roll that holds it; on a refusal an empty part at the roll's start.
+// An empty part and no Result: its clauses `value` and `place` are of a part of the roll.
 pub fn label(roll: &[u8], number: u64) -> &[u8]
     ensures value { result.now ≡ stretch (ask_label roll.now number) roll.now }
     ensures place { result.ref_ptr ≡ from roll.entry.ref_ptr (stretch_start (ask_label roll.now number)) }
 {
     match ask(roll, number) {
-        AskedLabel::Stretch(start, length) => &roll[start as usize..(start + length) as usize],
-        AskedLabel::Refused(_, _) => &roll[0..0],
+        Ok(Stretch { start, length }) => &roll[start..start + length],
+        Err(_) => &roll[..0],
     }
 }

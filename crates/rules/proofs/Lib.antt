@@ -5,6 +5,7 @@ pub mod Machine
 pub mod OneReply
 pub mod Price
 pub mod ReadBack
+pub mod Ranges
 pub mod Replies
 pub mod Roll
 pub mod Sheet

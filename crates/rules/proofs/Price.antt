@@ -1,15 +1,18 @@
 -- Laws of the price, over any fair row: the frames of a message sum to its price, each is smallest to full, and the price
 -- does not fall when the payload grows.
-use mathlib.Core.Path.{◌≡◌, refl, ap, sym}
-use mathlib.Core.List.{List, [], ◌∷◌, ◌++◌}
-use mathlib.Core.Logic.{◌⊎◌, inl, inr}
+use mathlib.Core.Path.{◌≡◌, refl, sym}
+use mathlib.Core.List.{[], ◌∷◌}
+use mathlib.Core.Logic.{◌⊎◌}
 use Prim.Native.Nat.{ℕ, zero, suc, ◌+◌, ◌*◌, ◌/◌, ◌%◌, ◌≤◌, ◌<◌}
 use native.Mathlib.Omega.{arith}
-use native.Mathlib.Decide.{dec_le, dec_lt}
-use native.Mathlib.Nat.{mod-lt, div-add-mod', div-mul-le_self, le-div_iff_mul-le, le_trans, zero-mul, suc-mul}
+use native.Mathlib.Nat.{mod-lt, div-add-mod', div-mul-le_self, le_trans, zero-mul, suc-mul}
 use lib.ListN.{replicate}
 use lib.Dec.{eqb-suc-zero}
-use borrow.Author.Tests.{eq-eqb, ne_eqb, le-leb, lt-leb, lt-ltb, le-ltb}
+use borrow.Author.Tests.{eq-eqb}
+use Rattle.std.proofs.lemmas.Nat.{le-div}
+use Rattle.std.proofs.lemmas.List.Elements.{All-nil, All-append, All-replicate}
+use Rattle.std.specs.List.{All}
+use Rattle.std.proofs.lemmas.Bool.Decides.{nat_tests}
 use Rattle.rules.specs.declared.Row.{Row}
 use Rattle.rules.specs.Words.{total}
 use Rattle.rules.specs.Numbers.{payload_most}
@@ -35,36 +38,29 @@ last_none row rest e = rw (eq-eqb rest 0 e)
 
 pub last-small : (row : Row) (rest : ℕ) → 1 ≤ rest → rest < row.least → last_bytes row rest ≡ small_frame
 unfolding last_bytes
-last-small row rest h l = rw (ne_eqb rest 0 (λ (e : rest ≡ 0). omega arith), lt-leb row.least rest l)
+last-small row rest h l = grind (arith, nat_tests)
 
 pub last_large : (row : Row) (rest : ℕ) → 1 ≤ rest → row.least ≤ rest → last_bytes row rest ≡ rest + row.overhead
 unfolding last_bytes
-last_large row rest h l = rw (ne_eqb rest 0 (λ (e : rest ≡ 0). omega arith), le-leb row.least rest l)
+last_large row rest h l = grind (arith, nat_tests)
 
 -- a frame holds its remainder with the overhead, and is no smaller than the smallest
 last_some : (row : Row) → Fair row → (rest : ℕ) → 1 ≤ rest
     → (small_frame ≤ last_bytes row rest) × (rest + row.overhead ≤ last_bytes row rest)
     × ((last_bytes row rest ≡ small_frame) ⊎ (last_bytes row rest ≡ rest + row.overhead))
+unfolding last_bytes
 last_some row f rest h =
-    elim (dec_le row.least rest) [
-      | yes l ↦
-          let e = last_large row rest h l in
-          (omega (arith, e, f.small), omega (arith, e), inr e)
-      | no n ↦
-          let e = last-small row rest h (omega arith) in
-          (omega (arith, e), omega (arith, e, f.small), inl e)
-    ]
+    grind (arith, nat_tests, f.small)
 
 pub last-most : (row : Row) → Fair row → (rest : ℕ) → rest < row.most → last_bytes row rest ≤ full_frame
 last-most row f zero h = omega (arith, last_none row 0 refl)
 last-most row f (suc r) h =
-    elim (last_some row f (suc r) (omega arith)).2 [ inl e ↦ omega (arith, e) | inr e ↦ omega (arith, e, f.full) ]
+    grind (arith, last_some row f (suc r), f.full)
 
 last_grows : (row : Row) → Fair row → (a b : ℕ) → a ≤ b → last_bytes row a ≤ last_bytes row b
 last_grows row f zero b l = omega (arith, last_none row 0 refl)
 last_grows row f (suc a) b l =
-    let big = last_some row f b (omega arith) in
-    elim (last_some row f (suc a) (omega arith)).2 [ inl e ↦ omega (arith, e, big.0) | inr e ↦ omega (arith, e, big.1) ]
+    grind (arith, last_some row f (suc a), last_some row f b)
 
 price-is : (framing payload : ℕ) → price framing payload
     ≡ payload / (row_of framing).most * full_frame + last_bytes (row_of framing) (payload % (row_of framing).most)
@@ -74,13 +70,8 @@ price-is framing payload = refl
 -- quotient and remainder of a smaller number: a smaller quotient, or the same and no larger remainder
 digits-grow : (m a b : ℕ) → 1 ≤ m → a ≤ b → (a / m < b / m) ⊎ ((a / m ≡ b / m) × (a % m ≤ b % m))
 digits-grow m a b h l =
-    let le : a / m ≤ b / m = (le-div_iff_mul-le h).1 (le_trans (div-mul-le_self a m) l) in
-    elim (dec_lt (a / m) (b / m)) [
-      | yes lt ↦ inl lt
-      | no n ↦
-          let e : a / m ≡ b / m = omega arith in
-          inr (e, omega (arith, div-add-mod' a m, div-add-mod' b m, ap (λ (q : ℕ). q * m) e))
-    ]
+    let le : a / m ≤ b / m = le-div (a / m) b m h (le_trans (div-mul-le_self a m) l) in
+    grind (arith, div-add-mod' a m, div-add-mod' b m)
 
 pub price-grows : (framing : ℕ) → framing ≤ 1 → (a b : ℕ) → a ≤ b → price framing a ≤ price framing b
 price-grows framing h a b l =
@@ -88,10 +79,12 @@ price-grows framing h a b l =
     let f = fair framing h in
     let pa = price-is framing a in
     let pb = price-is framing b in
-    elim (digits-grow row.most a b f.some l) [
-      | inl lt ↦ omega (arith, pa, pb, lt, last-most row f (a % row.most) (mod-lt a f.some))
-      | inr e ↦ omega (arith, pa, pb, e.0, last_grows row f (a % row.most) (b % row.most) e.1)
-    ]
+    grind (
+      arith,
+      digits-grow row.most a b f.some,
+      last-most row f (a % row.most) (mod-lt a f.some),
+      last_grows row f (a % row.most) (b % row.most),
+    )
 
 pub price-one : (framing : ℕ) → framing ≤ 1 → price framing 1 ≡ small_frame
 unfolding price last_bytes
@@ -137,57 +130,40 @@ frames-price framing payload =
     let row = row_of framing in
     let n = payload / row.most in
     let r = payload % row.most in
-    omega (
-      arith,
-      total-append (λ (x : ℕ). x) (replicate n full_frame) (last_frame row r),
-      total-replicate n full_frame,
-      total-last row r,
-    )
-
--- every frame of a list
-abbrev pub Every : (ℕ → Type 0) → List ℕ → Type 0
-Every P [] = Unit {0}
-Every P (x ∷ xs) = P x × Every P xs
-
-every_append : (P : ℕ → Type 0) (xs ys : List ℕ) → Every P xs → Every P ys → Every P (xs ++ ys)
-every_append P [] ys a b = b
-every_append P (x ∷ xs) ys a b = (a.0, every_append P xs ys a.1 b)
-
-every-replicate : (P : ℕ → Type 0) (n x : ℕ) → P x → Every P (replicate n x)
-every-replicate P zero x p = tt
-every-replicate P (suc n) x p = (p, every-replicate P n x p)
+    let split = total-append (λ (x : ℕ). x) (replicate n full_frame) (last_frame row r) in
+    omega (arith, split, total-replicate n full_frame, total-last row r)
 
 abbrev pub FrameSize : ℕ → Type 0
 FrameSize x = (small_frame ≤ x) × (x ≤ full_frame)
 
-every-last : (row : Row) → Fair row → (rest : ℕ) → rest < row.most → Every FrameSize (last_frame row rest)
+every-last : (row : Row) → Fair row → (rest : ℕ) → rest < row.most → All FrameSize (last_frame row rest)
 unfolding last_frame
-every-last row f zero h = tt
-every-last row f (suc r) h = rw eqb-suc-zero (((last_some row f (suc r) (omega arith)).0, last-most row f (suc r) h), tt)
+every-last row f zero h = All-nil FrameSize
+every-last row f (suc r) h =
+    let size : FrameSize (last_bytes row (suc r)) = ((last_some row f (suc r) (omega arith)).0, last-most row f (suc r) h) in
+    rw eqb-suc-zero (All-replicate FrameSize 1 (last_bytes row (suc r)) size)
 
 -- every frame is smallest to full
-pub frames-sizes : (framing payload : ℕ) → framing ≤ 1 → Every FrameSize (frames framing payload)
+pub frames-sizes : (framing payload : ℕ) → framing ≤ 1 → All FrameSize (frames framing payload)
 unfolding frames
 frames-sizes framing payload h =
     let row = row_of framing in
     let f = fair framing h in
-    every_append FrameSize (replicate (payload / row.most) full_frame) (last_frame row (payload % row.most))
-    (every-replicate FrameSize (payload / row.most) full_frame (omega arith))
+    All-append FrameSize (replicate (payload / row.most) full_frame) (last_frame row (payload % row.most))
+    (All-replicate FrameSize (payload / row.most) full_frame (omega arith))
     (every-last row f (payload % row.most) (mod-lt payload f.some))
 
 -- Asking a price, by its three replies.
 pub ask-framing : (framing payload : ℕ) → 2 ≤ framing → ask_price framing payload ≡ refused 20 0
 unfolding ask_price test
-ask-framing framing payload h = rw (le-ltb framing 2 h)
+ask-framing framing payload h = grind (arith, nat_tests)
 
 pub ask-payload : (framing payload : ℕ) → framing ≤ 1 → (payload < 1) ⊎ (payload_most < payload)
     → ask_price framing payload ≡ refused 6 0
 unfolding ask_price test
-ask-payload framing payload h (inl l) = rw (lt-ltb framing 2 (omega arith), lt-leb 1 payload l)
-ask-payload framing payload h (inr l) =
-    rw (lt-ltb framing 2 (omega arith), le-leb 1 payload (omega arith), lt-leb payload payload_most l)
+ask-payload framing payload h o = grind (arith, nat_tests)
 
 pub ask-granted : (framing payload : ℕ) → framing ≤ 1 → 1 ≤ payload → payload ≤ payload_most
     → ask_price framing payload ≡ granted (price framing payload ∷ [])
 unfolding ask_price test
-ask-granted framing payload h l m = rw (lt-ltb framing 2 (omega arith), le-leb 1 payload l, le-leb payload payload_most m)
+ask-granted framing payload h l m = grind (arith, nat_tests)

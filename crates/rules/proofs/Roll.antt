@@ -1,18 +1,19 @@
 -- Laws of the label roll: what a sound label and a sound roll have; a sound roll is its count and its labels, each behind its
 -- length byte; two with the same count and labels are the same bytes; no proper prefix or extension of one is sound.
 use mathlib.Core.Path.{◌≡◌, refl, sym, ap, ap₂, ◌∙◌}
-use mathlib.Core.Bool.{Bool, true, false, ◌&&◌}
-use mathlib.Core.Logic.{◌⊎◌, inl, inr}
+use mathlib.Core.Bool.{Bool, true, false}
 use mathlib.Core.List.{List, [], ◌∷◌, ◌++◌, map}
 use Prim.Native.Nat.{ℕ, zero, suc, ◌+◌, ◌*◌, ◌≤◌, ◌<◌}
 use native.Mathlib.Omega.{arith}
 use native.Mathlib.Numerals.{add-one}
-use lib.Dec.{leb, ltb, eqb}
+use lib.Dec.{eqb}
 use lib.ListN.{length, get_or, take, drop, replicate, length-drop, length-append}
 use lib.Seq.{take-length, take-suc, take-add, drop-cons, length-take-le, get_or-take, take-append_seam}
-use borrow.Author.Tests.{le-leb, lt-leb, leb-true, ltb-true, ne_eqb, eqb-true}
+use Rattle.std.proofs.lemmas.Bool.Decides.{nat_tests}
+use Rattle.std.proofs.lemmas.Grind.{common_steps}
+use Rattle.std.proofs.lemmas.Bool.{false_from_ne_true}
 use Rattle.rules.specs.Words.{between, every, only, gathered}
-use Rattle.rules.proofs.Sheet.Fitting.{and_true, true-every}
+use Rattle.rules.proofs.Sheet.Fitting.{true-every}
 use Rattle.rules.specs.Numbers.{channels_most}
 use Rattle.rules.specs.Replies.{Reply, granted, refused, test}
 use Rattle.rules.specs.Roll.{label_most, roll_longest, labels, behind, length_at, label_length, label}
@@ -20,13 +21,13 @@ use Rattle.rules.specs.Roll.{sound_at, sound_labels, sound_roll, ask_label, stre
 use Rattle.rules.proofs.Machine.Played.{gathered-same}
 
 pub between_is : (low x high : ℕ) → low ≤ x → x ≤ high → between low x high ≡ true
-between_is low x high a b = rw (le-leb low x a, le-leb x high b)
+between_is low x high a b = grind (arith, nat_tests)
 
 pub between-below : (low x high : ℕ) → x < low → between low x high ≡ false
-between-below low x high a = rw (lt-leb low x a)
+between-below low x high a = grind (arith, nat_tests)
 
 pub between-above : (low x high : ℕ) → low ≤ x → high < x → between low x high ≡ false
-between-above low x high a b = rw (le-leb low x a, lt-leb x high b)
+between-above low x high a b = grind (arith, nat_tests)
 
 -- the label whose length byte stands at `at`
 module _ (roll : List ℕ) (at : ℕ) where
@@ -38,71 +39,58 @@ module _ (roll : List ℕ) (at : ℕ) where
 
   pub none : count < 1 → sound_at roll at ≡ false
   unfolding sound_at
-  none h = rw (between-below 1 count label_most h)
+  none h = grind (arith, nat_tests)
 
   module _ (some : 1 ≤ count) where
     pub long : label_most < count → sound_at roll at ≡ false
     unfolding sound_at
-    long h = rw (between-above 1 count label_most some h)
+    long h = grind (arith, nat_tests)
 
     module _ (short : count ≤ label_most) where
       pub past : length roll < behind roll at → sound_at roll at ≡ false
       unfolding sound_at
-      past h = rw (between_is 1 count label_most some short, lt-leb (behind roll at) (length roll) h)
+      past h = grind (arith, nat_tests)
 
       pub inside : behind roll at ≤ length roll → (b : Bool) → b ≡ printed → sound_at roll at ≡ b
       unfolding sound_at
-      inside h b e = rw (between_is 1 count label_most some short, le-leb (behind roll at) (length roll) h, e)
+      inside h b e = grind (arith, nat_tests)
 
   -- what a sound label has
   pub told : sound_at roll at ≡ true → (1 ≤ count) × (count ≤ label_most) × (behind roll at ≤ length roll) × (printed ≡ true)
   unfolding sound_at
-  told e =
-      let fits : Bool = leb (behind roll at) (length roll) in
-      let a = and_true (between 1 count label_most && fits) printed e in
-      let b = and_true (between 1 count label_most) fits a.0 in
-      let d = and_true (leb 1 count) (leb count label_most) b.0 in
-      (leb-true 1 count d.0, leb-true count label_most d.1, leb-true (behind roll at) (length roll) b.1, a.1)
+  told e = grind (arith, nat_tests)
 
 -- what stands for a number where a test fails, and where it does not
 pub only_none : (b : Bool) (x : ℕ) → only b x ≡ 0 → 1 ≤ x → b ≡ false
-only_none true x e h = absurd (omega arith)
-only_none false x e h = refl
+only_none b x e h = grind (arith, common_steps)
 
 pub only-some : (b : Bool) (x : ℕ) → (only b x ≡ 0 → ⊥) → b ≡ true
-only-some true x ne = refl
-only-some false x ne = absurd (ne refl)
+only-some b x ne = grind (arith, common_steps)
 
 -- where the length byte of label n can stand at most
 pub length_at-most : (roll : List ℕ) (n : ℕ) → sound_labels roll n ≡ true → length_at roll n ≤ 1 + (1 + label_most) * n
 unfolding every length_at
 length_at-most roll zero e = omega arith
 length_at-most roll (suc n) e =
-    let both = and_true (sound_labels roll n) (sound_at roll (length_at roll n)) e in
-    omega (arith, length_at-most roll n both.0, (told roll (length_at roll n) both.1).1)
+    grind (arith, common_steps, length_at-most roll n, told roll (length_at roll n))
 
 -- the whole roll
 module _ (roll : List ℕ) where
   pub roll-none : labels roll < 1 → sound_roll roll ≡ false
   unfolding sound_roll
-  roll-none h = rw (between-below 1 (labels roll) channels_most h)
+  roll-none h = grind (arith, nat_tests)
 
   module _ (some : 1 ≤ labels roll) where
     pub roll_many : channels_most < labels roll → sound_roll roll ≡ false
     unfolding sound_roll
-    roll_many h = rw (between-above 1 (labels roll) channels_most some h)
+    roll_many h = grind (arith, nat_tests)
 
     -- it ends where its labels do, and 0 stands for the end of those with a fault
     pub roll-ends : labels roll ≤ channels_most → 1 ≤ length roll
         → eqb (only (sound_labels roll (labels roll)) (length_at roll (labels roll))) (length roll) ≡ sound_roll roll
     unfolding sound_roll
     roll-ends h l =
-        rw (between_is 1 (labels roll) channels_most some h)
-        (both (sound_labels roll (labels roll)) (length_at roll (labels roll)) (length roll) l)
-      where
-        both : (b : Bool) (x n : ℕ) → 1 ≤ n → eqb (only b x) n ≡ (b && eqb x n)
-        both true x n g = refl
-        both false x n g = ne_eqb 0 n (λ (e : 0 ≡ n). omega arith)
+        grind (arith, nat_tests)
 
   -- what a sound roll has
   pub roll-told : sound_roll roll ≡ true
@@ -110,35 +98,20 @@ module _ (roll : List ℕ) where
       × (length_at roll (labels roll) ≡ length roll)
   unfolding sound_roll
   roll-told e =
-      let counted : Bool = between 1 (labels roll) channels_most in
-      let good : Bool = sound_labels roll (labels roll) in
-      let a = and_true (counted && good) (eqb (length_at roll (labels roll)) (length roll)) e in
-      let b = and_true counted good a.0 in
-      let d = and_true (leb 1 (labels roll)) (leb (labels roll) channels_most) b.0 in (
-        leb-true 1 (labels roll) d.0,
-        leb-true (labels roll) channels_most d.1,
-        b.1,
-        eqb-true (length_at roll (labels roll)) (length roll) a.1,
-      )
-
-pub either : (b : Bool) → (b ≡ true) ⊎ (b ≡ false)
-either true = inl refl
-either false = inr refl
+      grind (arith, nat_tests)
 
 -- what is granted is a part of the roll
 pub ask-inside : (roll : List ℕ) (number : ℕ)
     → stretch_start (ask_label roll number) + stretch_length (ask_label roll number) ≤ length roll
 unfolding ask_label test stretch_start stretch_length
-ask-inside roll number = elim (either (sound_roll roll)) [
-  | inr e ↦ rw e (omega arith)
-  | inl e ↦ elim (either (ltb number (labels roll))) [
-    | inr f ↦ rw (e, f) (omega arith)
-    | inl f ↦
-        let good = true-every (λ k. sound_at roll (length_at roll k)) (labels roll) (roll-told roll e).2 number
-        (ltb-true number (labels roll) f) in
-        rw (e, f) (told roll (length_at roll number) good).2
-  ]
-]
+ask-inside roll number =
+    grind (
+      arith,
+      nat_tests,
+      roll-told roll,
+      true-every (λ k. sound_at roll (length_at roll k)) (labels roll),
+      told roll (length_at roll number),
+    )
 
 abbrev pub piece : List ℕ → ℕ → List ℕ
 piece roll k = label_length roll k ∷ label roll k
@@ -200,34 +173,26 @@ module _ (s : List ℕ) (n : ℕ) (less : n < length s) (is : sound_roll s ≡ t
   unfolding length_at
   placed zero h = refl
   placed (suc k) h =
-      let e = placed k (omega arith) in
-      let at = length_at (take n s) k in
-      let same : get_or (take n s) at 0 ≡ get_or s at 0
-      = get_or-take n s at 0 (omega (arith, short, fits (take n s) cut k (omega (arith, counted)))) in
-      omega (arith, e, same, ap (λ (i : ℕ). get_or s i 0) e)
+      grind (
+        arith,
+        short,
+        counted,
+        fits (take n s) cut k,
+        placed k,
+        get_or-take n s (length_at (take n s) k) 0,
+      )
 
   absurd-cut : ⊥
   absurd-cut =
-      omega (
-        arith,
-        short,
-        (roll-told s is).3,
-        (roll-told (take n s) cut).3,
-        placed (labels s) (omega arith),
-        ap (length_at (take n s)) counted,
-      )
+      grind (arith, short, counted, (roll-told s is).3, (roll-told (take n s) cut).3, placed (labels s))
 
 pub prefix_faulty : (s : List ℕ) (n : ℕ) → n < length s → sound_roll s ≡ true → sound_roll (take n s) ≡ false
-prefix_faulty s n l is = elim (either (sound_roll (take n s))) [ inl e ↦ absurd (absurd-cut s n l is e) | inr e ↦ e ]
+prefix_faulty s n l is = false_from_ne_true (sound_roll (take n s)) (absurd-cut s n l is)
 
 pub extension_faulty : (s more : List ℕ) → 0 < length more → sound_roll s ≡ true → sound_roll (s ++ more) ≡ false
-extension_faulty s more l is = elim (either (sound_roll (s ++ more))) [
-  | inr e ↦ e
-  | inl e ↦
-      let cut = take-append_seam s more in
-      absurd
-      (absurd-cut (s ++ more) (length s) (omega (arith, length-append s more)) e (ap sound_roll cut ∙ is))
-]
+extension_faulty s more l is =
+    false_from_ne_true (sound_roll (s ++ more)) (λ e.
+    absurd-cut (s ++ more) (length s) (omega (arith, length-append s more)) e (ap sound_roll (take-append_seam s more) ∙ is))
 
 -- each gets 21
 pub faulty_21 : (s : List ℕ) (number : ℕ) → sound_roll s ≡ false → ask_label s number ≡ refused 21 0

@@ -69,12 +69,7 @@ price-small framing payload =
 
 fine-sheet : (P : List ℕ → Type 0) (s : List ℕ) → Fine P (sheet_tests s)
 unfolding sheet_tests
-fine-sheet P s rest h =
-    fine-test _ 16 0 (omega arith) _
-    (fine-test _ 17 0 (omega arith) _
-    (fine-test _ 17 0 (omega arith) _
-    (fine-test _ 16 0 (omega arith) _
-    (fine-test _ 18 0 (omega arith) rest h))))
+fine-sheet P s rest h = search (arith, fine-test)
 
 abbrev pub WireFigures : List ℕ → Type 0
 WireFigures v = (get_or v 0 0 < 2 ^ backlog_bits) × (get_or v 1 0 < 2 ^ delay_bits)
@@ -114,30 +109,22 @@ module _ {P : List ℕ → Type 0} (s : List ℕ) where
   fine_head : Fine P (head_tests s)
   unfolding head_tests
   fine_head rest h =
-      fine-test _ 1 0 (omega arith) _
-      (fine-test _ 2 0 (omega arith) _
-      (fine-test _ 3 0 (omega arith) _
-      (fine-test _ 4 0 (omega arith) rest h)))
+      search (arith, fine-test)
 
   fine-wire : (w : ℕ) → w < wires_most → Fine P (wire_tests s w)
   unfolding wire_tests
-  fine-wire w l rest h = fine-test _ 1 0 (omega arith) _ (fine-test _ 5 w (omega arith) rest h)
+  fine-wire w l rest h = search (arith, fine-test)
 
   fine-hops : (n c least : ℕ) (xs : List ℕ) → c < channels_most → Fine P (hop_tests n c least xs)
   unfolding hop_tests
   fine-hops n c least [] l rest h = h
   fine-hops n c least (x ∷ xs) l rest h =
-      fine-test _ 9 c (omega arith) _ (fine-test _ 10 c (omega arith) _ (fine-hops n c (suc x) xs l rest h))
+      search (arith, fine-test, fine-hops n c (suc x) xs l)
 
   fine-channel : (c : ℕ) → c < channels_most → Fine P (channel_tests s c)
   unfolding channel_tests record_tests value_tests
   fine-channel c l rest h =
-      fine-test _ 1 0 (omega arith) _
-      (fine-test _ 6 c (omega arith) _
-      (fine-test _ 7 c (omega arith) _
-      (fine-test _ 8 c (omega arith) _
-      (fine-test _ 1 0 (omega arith) _
-      (fine-hops _ c 0 _ l rest h)))))
+      search (arith, fine-test, fine-hops)
 
   fine_filling : Fine P (filling_tests s)
   unfolding filling_tests

@@ -1,20 +1,12 @@
--- Either way of a Bool. Ascending induction. Laws of sums and tests over numbers below a bound, and of totals over lists.
+-- Ascending induction. Laws of sums and tests over numbers below a bound, and of totals over lists.
 use mathlib.Core.Path.{◌≡◌, refl, ap, sym}
-use mathlib.Core.Bool.{Bool, true, false, ◌||◌}
-use mathlib.Core.Logic.{◌⊎◌, inl, inr}
+use mathlib.Core.Bool.{Bool, false}
 use mathlib.Core.List.{List, [], ◌∷◌, ◌++◌, map}
-use Prim.Native.Nat.{ℕ, zero, suc, ◌+◌, ◌*◌, ◌≤◌, ◌<◌}
+use Prim.Native.Nat.{ℕ, zero, suc, ◌+◌, ◌-◌, ◌*◌, ◌≤◌, ◌<◌}
 use native.Mathlib.Nat.{add-zero, add-suc}
-use native.Mathlib.Decide.{dec_le, ℕ_discrete}
 use native.Mathlib.Omega.{arith}
+use Rattle.std.proofs.lemmas.Grind.{common_steps}
 use Rattle.rules.specs.Words.{sum, total, gathered, some}
-
-pub bool_cases : (b : Bool) → (b ≡ true) ⊎ (b ≡ false)
-bool_cases true = inl refl
-bool_cases false = inr refl
-
-pub true_false : true ≡ false → ⊥
-true_false e = let z : ◌≡◌ {A = ℕ} 0 1 = cc in omega arith
 
 -- ascending: what holds of a number where it holds of all below, holds
 pub ascend : (P : ℕ → Type 0) → ((w : ℕ) → ((v : ℕ) → v < w → P v) → P w) → (w : ℕ) → P w
@@ -23,6 +15,11 @@ ascend P step w = step w (below w)
     below : (n v : ℕ) → v < n → P v
     below zero v l = absurd (omega arith)
     below (suc n) v l = step v (λ u less. below n u (omega arith))
+
+-- one number more
+pub sum-next : (f : ℕ → ℕ) (a b : ℕ) → a ≡ suc b → sum f a ≡ sum f b + f b
+unfolding sum
+sum-next f a b e = ap (sum f) e
 
 pub sum-le : (f g : ℕ → ℕ) (n : ℕ) → ((i : ℕ) → i < n → f i ≤ g i) → sum f n ≤ sum g n
 unfolding sum
@@ -59,23 +56,17 @@ unfolding sum
 sum-swap f m zero = sym (sum-none m)
 sum-swap f m (suc n) = omega (arith, sum-swap f m n, sum-add (λ j. sum (λ i. f i j) n) (f n) m)
 
-pub sum-grows : (f : ℕ → ℕ) (a b : ℕ) → a ≤ b → sum f a ≤ sum f b
-unfolding sum
-sum-grows f a zero l = omega (arith, ap (λ (x : ℕ). sum f x) (a_zero l))
-  where
-    a_zero : a ≤ 0 → a ≡ 0
-    a_zero l = omega arith
-sum-grows f a (suc b) l =
-    elim (dec_le a b) [
-      | yes le ↦ omega (arith, sum-grows f a b le)
-      | no gt ↦ (let e : a ≡ suc b = omega arith in omega (arith, ap (λ (x : ℕ). sum f x) e))
-    ]
-
 -- a sum to a + n, cut at a
 pub sum-cut : (f : ℕ → ℕ) (a n : ℕ) → sum f (a + n) ≡ sum f a + sum (λ i. f (a + i)) n
 unfolding sum
 sum-cut f a zero = omega (arith, ap (λ (x : ℕ). sum f x) (add-zero a))
 sum-cut f a (suc n) = omega (arith, sum-cut f a n, ap (λ (x : ℕ). sum f x) (add-suc a n))
+
+pub sum-grows : (f : ℕ → ℕ) (a b : ℕ) → a ≤ b → sum f a ≤ sum f b
+unfolding sum
+sum-grows f a b l =
+    let e : a + (b - a) ≡ b = omega arith in
+    omega (arith, sum-cut f a (b - a), ap (sum f) e)
 
 pub sum-has : (f : ℕ → ℕ) (n k : ℕ) → k < n → f k ≤ sum f n
 unfolding sum
@@ -92,27 +83,14 @@ sum-alone f n k l h = go n l
 
     go : (n : ℕ) → k < n → sum f n ≡ f k
     go zero l = absurd (omega arith)
-    go (suc n) l =
-        elim (ℕ_discrete n k) [
-          | yes e ↦ omega (arith, before n (omega arith), ap (λ (x : ℕ). f x) e)
-          | no d ↦ omega (arith, go n (omega arith), h n d)
-        ]
+    go (suc n) l = grind (arith, before n, go n, h n)
 
 -- some number below n passes a test, or none does
-either_false : (a b : Bool) → a || b ≡ false → (a ≡ false) × (b ≡ false)
-either_false true b e = (e, cc)
-either_false false b e = (refl, e)
-
 module _ (f : ℕ → Bool) where
   pub some-none : (n : ℕ) → some f n ≡ false → (k : ℕ) → k < n → f k ≡ false
   unfolding some
   some-none zero e k l = absurd (omega arith)
-  some-none (suc n) e k l =
-      let both = either_false (some f n) (f n) e in
-      elim (ℕ_discrete k n) [
-        | yes here ↦ rw here both.1
-        | no before ↦ some-none n both.0 k (omega arith)
-      ]
+  some-none (suc n) e k l = grind (arith, common_steps, some-none n)
 
   pub none-some : (n : ℕ) → ((k : ℕ) → k < n → f k ≡ false) → some f n ≡ false
   unfolding some

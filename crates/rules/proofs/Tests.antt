@@ -4,9 +4,10 @@ use mathlib.Core.Bool.{Bool, true, false, ◌&&◌}
 use mathlib.Core.List.{List}
 use Prim.Native.Nat.{ℕ, zero, suc, ◌+◌, ◌≤◌, ◌<◌}
 use native.Mathlib.Omega.{arith}
-use native.Mathlib.Decide.{dec_le, dec_lt, ℕ_discrete}
+use native.Mathlib.Decide.{ℕ_discrete}
 use lib.Dec.{leb, ltb, eqb}
-use borrow.Author.Tests.{le-leb, lt-leb, lt-ltb, le-ltb, eq-eqb, ne_eqb}
+use borrow.Author.Tests.{le-leb, leb-true, lt-ltb, ltb-true, eq-eqb, eqb-true}
+use Rattle.std.proofs.lemmas.Bool.{false≢true}
 use Rattle.rules.specs.Words.{between}
 use Rattle.rules.specs.Replies.{Reply, granted, refused, test, each}
 
@@ -24,10 +25,10 @@ pub data Gate (P : Type 0) (f : Reply → Reply) : Type 0 where
 module _ {P : Type 0} {f : Reply → Reply} where
   pub gate-granted : Gate P f → (rest : Reply) (v : List ℕ) → f rest ≡ granted v → P × (rest ≡ granted v)
   gate-granted (through h e) rest v q = (h, sym (e rest) ∙ q)
-  gate-granted (stops h n p e) rest v q = let z : ◌≡◌ {A = ℕ} 0 1 = cc (e rest) in absurd (omega arith)
+  gate-granted (stops h n p e) rest v q = cc (e rest)
 
   pub gate-refused : Gate P f → (v : List ℕ) (n p : ℕ) → f (granted v) ≡ refused n p → Stops f n p
-  gate-refused (through h e) v n p q rest = let z : ◌≡◌ {A = ℕ} 0 1 = cc (e (granted v)) in absurd (omega arith)
+  gate-refused (through h e) v n p q rest = cc (e (granted v))
   gate-refused (stops h n' p' e) v n p q rest = e rest ∙ sym (e (granted v)) ∙ q
 
   pub gate_through : Gate P f → P → Through f
@@ -47,28 +48,16 @@ module _ (n p : ℕ) where
   pub test-gate : (b : Bool) → Gate (b ≡ true) (test b n p)
   unfolding test
   test-gate true = through refl (λ rest. refl)
-  test-gate false = stops (λ q. let z : ◌≡◌ {A = ℕ} 0 1 = cc in omega arith) n p (λ rest. refl)
+  test-gate false = stops false≢true n p (λ rest. refl)
 
   pub le-gate : (a b : ℕ) → Gate (a ≤ b) (test (leb a b) n p)
-  unfolding test
-  le-gate a b = elim (dec_le a b) [
-    | yes l ↦ through l (λ rest. rw (le-leb a b l))
-    | no o ↦ stops o n p (λ rest. rw (lt-leb a b (omega arith)))
-  ]
+  le-gate a b = gate_iff (leb-true a b) (le-leb a b) (test-gate (leb a b))
 
   pub lt-gate : (a b : ℕ) → Gate (a < b) (test (ltb a b) n p)
-  unfolding test
-  lt-gate a b = elim (dec_lt a b) [
-    | yes l ↦ through l (λ rest. rw (lt-ltb a b l))
-    | no o ↦ stops o n p (λ rest. rw (le-ltb a b (omega arith)))
-  ]
+  lt-gate a b = gate_iff (ltb-true a b) (lt-ltb a b) (test-gate (ltb a b))
 
   pub eq-gate : (a b : ℕ) → Gate (a ≡ b) (test (eqb a b) n p)
-  unfolding test
-  eq-gate a b = elim (ℕ_discrete a b) [
-    | yes l ↦ through l (λ rest. rw (eq-eqb a b l))
-    | no o ↦ stops o n p (λ rest. rw (ne_eqb a b o))
-  ]
+  eq-gate a b = gate_iff (eqb-true a b) (eq-eqb a b) (test-gate (eqb a b))
 
   -- one test of two things is two tests with the same refusal
   pub both_gate : {P Q : Type 0} (a b : Bool) → Gate P (test a n p) → Gate Q (test b n p) → Gate (P × Q) (test (a && b) n p)
@@ -78,13 +67,6 @@ module _ (n p : ℕ) where
 
   pub between-gate : (low x high : ℕ) → Gate ((low ≤ x) × (x ≤ high)) (test (between low x high) n p)
   between-gate low x high = both_gate (leb low x) (leb x high) (le-gate low x) (le-gate x high)
-
-pub each-through : (f : ℕ → Reply → Reply) (a left : ℕ) → ((i : ℕ) → a ≤ i → i < a + left → Through (f i))
-    → Through (each f a left)
-unfolding each
-each-through f a zero h rest = refl
-each-through f a (suc left) h rest =
-    h a (omega arith) (omega arith) _ ∙ each-through f (suc a) left (λ i l m. h i (omega arith) (omega arith)) rest
 
 -- the items from a on, as many as are left
 pub each-gate : (P : ℕ → Type 0) (f : ℕ → Reply → Reply) → ((i : ℕ) → Gate (P i) (f i))

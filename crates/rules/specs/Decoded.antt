@@ -1,20 +1,37 @@
--- A table as read: the view's numbers in arrays, and its figures.
-use Rattle.std.specs.Prelude.{List, ℕ, ◌*◌, ◌/◌, ◌%◌, length, get_or, replicate, ltb}
+-- A table as read: the view's numbers in arrays of wires and channels, and its figures.
+use Rattle.std.specs.Prelude.{List, ℕ, cond, length, get_or, replicate, ltb}
+use Rattle.rules.specs.declared.Wire.{Wire}
+use Rattle.rules.specs.declared.Channel.{Channel}
 use Rattle.rules.specs.declared.Table.{Table}
+use Rattle.rules.specs.declared.WireFigures.{WireFigures}
 use Rattle.rules.specs.declared.Figures.{Figures}
-use Rattle.rules.specs.Words.{only, listed}
-use Rattle.rules.specs.Numbers.{wires_most, channels_most, hops_most, routes_most}
-use Rattle.rules.specs.Replies.{Reply, granted, refused}
+use Rattle.rules.specs.Words.{listed, entries}
+use Rattle.rules.specs.Numbers.{wires_most, channels_most, hops_most}
 use Rattle.rules.specs.Table.{View}
 use Rattle.rules.specs.Bounds.{cost, times, backlog, delay, end_to_end}
 
--- f 0, f 1, .. f (n - 1), and 0 from there on, in so many places
-unfoldable pub column : ℕ → ℕ → (ℕ → ℕ) → List ℕ
-column places n f = listed (λ i. only (ltb i n) (f i)) places
+-- f 0, f 1, .. f (n - 1), and what stands for none from there on, in so many places
+unfoldable pub column : {A : Type 0} → A → ℕ → ℕ → (ℕ → A) → List A
+column none places n f = listed (λ i. cond (ltb i n) (f i) none) places
 
--- the wire of hop j % 8 of channel j / 8, and 0 past the channel's hops
-abbrev pub hop_of : View → ℕ → ℕ
-hop_of t j = get_or (t.route (j / hops_most)) (j % hops_most) 0
+abbrev pub no_wire : Wire
+no_wire = record { rate = 0; prop = 0; room = 0 }
+
+unfoldable pub wire_of : View → ℕ → Wire
+wire_of t w = record { rate = t.rate w; prop = t.prop w; room = t.room w }
+
+abbrev pub no_channel : Channel
+no_channel = record { price = 0; times = 0; deadline = 0; hops = 0; route = replicate hops_most 0 }
+
+unfoldable pub channel_of : View → ℕ → Channel
+channel_of t k =
+    record {
+      price = cost t k;
+      times = times t k;
+      deadline = t.deadline k;
+      hops = length (t.route k);
+      route = column 0 hops_most (length (t.route k)) (entries (t.route k));
+    }
 
 unfoldable pub table_of : View → Table
 table_of t =
@@ -22,14 +39,8 @@ table_of t =
       hyper = t.hyper;
       wires = t.wires;
       channels = t.channels;
-      rate = column wires_most t.wires t.rate;
-      prop = column wires_most t.wires t.prop;
-      room = column wires_most t.wires t.room;
-      price = column channels_most t.channels (cost t);
-      times = column channels_most t.channels (times t);
-      deadline = column channels_most t.channels t.deadline;
-      hops = column channels_most t.channels (λ k. length (t.route k));
-      route = column routes_most (t.channels * hops_most) (hop_of t);
+      wire = column no_wire wires_most t.wires (wire_of t);
+      channel = column no_channel channels_most t.channels (channel_of t);
     }
 
 unfoldable pub no_table : Table
@@ -38,35 +49,33 @@ no_table =
       hyper = 0;
       wires = 0;
       channels = 0;
-      rate = replicate wires_most 0;
-      prop = replicate wires_most 0;
-      room = replicate wires_most 0;
-      price = replicate channels_most 0;
-      times = replicate channels_most 0;
-      deadline = replicate channels_most 0;
-      hops = replicate channels_most 0;
-      route = replicate routes_most 0;
+      wire = replicate wires_most no_wire;
+      channel = replicate channels_most no_channel;
     }
 
--- what reading leaves: on a refusal all is 0
-unfoldable pub table_left : Reply → View → Table
-table_left (granted values) t = table_of t
-table_left (refused number place) t = no_table
+abbrev pub no_wire_figures : WireFigures
+no_wire_figures = record { backlog = 0; delay = 0 }
+
+unfoldable pub wire_figures_of : View → ℕ → WireFigures
+wire_figures_of t w = record { backlog = backlog t w; delay = delay t w }
 
 -- the figures of a view
 unfoldable pub figures_of : View → Figures
 figures_of t =
     record {
-      backlog = column wires_most t.wires (backlog t);
-      delay = column wires_most t.wires (delay t);
-      end = column channels_most t.channels (end_to_end t);
+      wire = column no_wire_figures wires_most t.wires (wire_figures_of t);
+      end = column 0 channels_most t.channels (end_to_end t);
     }
 
 unfoldable pub no_figures : Figures
-no_figures =
-    record { backlog = replicate wires_most 0; delay = replicate wires_most 0; end = replicate channels_most 0 }
+no_figures = record { wire = replicate wires_most no_wire_figures; end = replicate channels_most 0 }
 
--- what working out the bounds leaves: on a refusal all is 0
-unfoldable pub figures_left : Reply → View → Figures
-figures_left (granted values) t = figures_of t
-figures_left (refused number place) t = no_figures
+-- of figures the backlog and the delay of wire w, and the end-to-end delay of channel k; 0 past the arrays
+abbrev pub backlog_in : Figures → ℕ → ℕ
+backlog_in f w = (get_or f.wire w no_wire_figures).backlog
+
+abbrev pub delay_in : Figures → ℕ → ℕ
+delay_in f w = (get_or f.wire w no_wire_figures).delay
+
+abbrev pub end_in : Figures → ℕ → ℕ
+end_in f k = get_or f.end k 0

@@ -1,14 +1,13 @@
 -- The sheet, bit by bit; writing it and asking it.
-use Rattle.std.specs.Prelude.{Bool, cond, ◌&&◌, List, [], ◌∷◌, ◌++◌, ℕ, zero, suc, ◌+◌, ◌-◌, ◌*◌, ◌^◌, length, replicate, leb, ltb, eqb}
+use Rattle.std.specs.Prelude.{Bool, Option, Some, None, cond, ◌&&◌, List, [], ◌∷◌, ◌++◌, ℕ, zero, suc, ◌+◌, ◌-◌, ◌*◌, ◌^◌, length, replicate, leb, ltb, eqb}
 use Rattle.bits.specs.Field.{field, put_field}
 use Rattle.rules.specs.declared.Figures.{Figures}
-use Rattle.rules.specs.declared.Written.{Written}
-use Rattle.rules.specs.declared.Written.TheVariants.{Length, Nothing}
-use Rattle.rules.specs.Words.{up, between, entries, every}
+use Rattle.rules.specs.Words.{up, between, every}
 use Rattle.rules.specs.Numbers.{wires_bits, wires_most, channels_bits, channels_most}
 use Rattle.rules.specs.Numbers.{sheet_head_bits, backlog_bits, delay_bits, figures_bits, end_bits}
 use Rattle.rules.specs.Replies.{Reply, granted, test}
 use Rattle.rules.specs.Table.{filling_of}
+use Rattle.rules.specs.Decoded.{backlog_in, delay_in, end_in}
 
 -- n (7), m (8), for each wire its backlog (24) and delay (24), for each channel its end-to-end delay (28)
 unfoldable pub figures_at : ℕ → ℕ
@@ -43,21 +42,21 @@ unfoldable pub fits : ℕ → ℕ → Figures → Bool
 fits n m f =
     between 1 n wires_most
     && between 1 m channels_most
-    && every (λ w. ltb (entries f.backlog w) (2 ^ backlog_bits)) n
-    && every (λ w. ltb (entries f.delay w) (2 ^ delay_bits)) n
-    && every (λ k. ltb (entries f.end k) (2 ^ end_bits)) m
+    && every (λ w. ltb (backlog_in f w) (2 ^ backlog_bits)) n
+    && every (λ w. ltb (delay_in f w) (2 ^ delay_bits)) n
+    && every (λ k. ltb (end_in f k) (2 ^ end_bits)) m
 
 abbrev pub writes : ℕ → ℕ → Figures → ℕ → Bool
 writes n m f lent = fits n m f && leb (sheet_length n m) lent
 
-abbrev pub written_of : ℕ → ℕ → Figures → ℕ → Written
-written_of n m f lent = cond (writes n m f lent) (Length (sheet_length n m)) Nothing
+abbrev pub written_of : ℕ → ℕ → Figures → ℕ → Option ℕ
+written_of n m f lent = cond (writes n m f lent) (Some (sheet_length n m)) None
 
 -- the lent buffer afterwards: the sheet and 255 after it, or 255 alone
 abbrev pub wrote_sheet : ℕ → ℕ → Figures → ℕ → List ℕ
 wrote_sheet n m f lent =
     cond (writes n m f lent)
-    (sheet_of n m (entries f.backlog) (entries f.delay) (entries f.end) ++ replicate (lent - sheet_length n m) 255)
+    (sheet_of n m (backlog_in f) (delay_in f) (end_in f) ++ replicate (lent - sheet_length n m) 255)
     (replicate lent 255)
 
 -- Asking a sheet for a wire or a channel.

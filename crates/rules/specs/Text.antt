@@ -1,10 +1,8 @@
 -- The text that the board prints: words in ASCII and numbers in decimal, a blank before each number, each line ended by a
 -- newline; and what writing it into a lent buffer leaves.
-use Rattle.std.specs.Prelude.{◌≡◌, cond, List, [], ◌∷◌, ◌++◌, ℕ, zero, suc, ◌+◌, ◌-◌, ◌/◌, ◌%◌, length, replicate, leb, ltb}
+use Rattle.std.specs.Prelude.{◌≡◌, cond, Option, Some, None, List, [], ◌∷◌, ◌++◌, ℕ, zero, suc, ◌+◌, ◌-◌, ◌/◌, ◌%◌, length, replicate, leb, ltb}
 use Prim.Native.Char.{code}
 use Prim.Native.String.{String, [] as none, ◌∷◌ as ◌then◌}
-use Rattle.rules.specs.declared.Written.{Written}
-use Rattle.rules.specs.declared.Written.TheVariants.{Length, Nothing}
 use Rattle.rules.specs.Words.{cut, gathered}
 use Rattle.rules.specs.Numbers.{sheet_longest}
 use Rattle.rules.specs.Replies.{Reply, granted, refused}
@@ -80,8 +78,8 @@ pub record Put (b : List ℕ) (at : ℕ) (w : List ℕ) (after : ℕ) (left : Li
   pub bytes : left ≡ laid b at w
 
 -- Writing a text into a lent buffer: its length, or nothing where the buffer is shorter.
-abbrev pub text_written : List ℕ → ℕ → Written
-text_written w lent = cond (leb (length w) lent) (Length (length w)) Nothing
+abbrev pub text_written : List ℕ → ℕ → Option ℕ
+text_written w lent = cond (leb (length w) lent) (Some (length w)) None
 
 -- the lent buffer afterwards: the text and 255 after it, or 255 alone
 abbrev pub text_left : List ℕ → ℕ → List ℕ

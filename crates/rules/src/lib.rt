@@ -1,8 +1,12 @@
-// Document 01's types: the answers, the rows of framings, and the table with its constants. No behaviour.
+// Document 01's types: its refusals, the rows of framings, the table with its constants, and the figures.
 #![tactic(auto)]
 
-ghost use Rattle.std.specs.Prelude.{◌≡◌};
+ghost use Rattle.std.specs.Prelude.{◌≡◌, Some};
 ghost use Rattle.rules.specs.Numbers.{numbers};
+ghost use Rattle.rules.specs.Replies.{refusal_number, refusal_place, refusal_text};
+
+use std::error::Error;
+use std::fmt;
 
 // One row of the table of framings: the most data that a frame holds, its overhead, the least data.
 #[derive(Clone, Copy)]
@@ -19,93 +23,147 @@ impl Row {
     pub const SMALL_FRAME: u64 = 88;
 }
 
-// Asking a price: the price in bytes. A refusal holds its number and place in every answer.
-#[derive(Clone, Copy)]
-pub enum Pricing {
-    Price(u64),
-    Refused(u64, u64),
+// Document 01's refusals, in the order of their numbers, each with its place where that is not 0: a wire or a channel.
+#[derive(Clone, Copy, Debug, PartialEq, Eq)]
+pub enum Refusal {
+    CutShort,
+    Hyperperiod,
+    Wires,
+    Channels,
+    RateCode(usize),
+    Payload(usize),
+    Period(usize),
+    Hops(usize),
+    RouteWire(usize),
+    RouteOrder(usize),
+    Further,
+    Load(usize),
+    Room(usize),
+    Deadline(usize),
+    Buffer,
+    SheetLength,
+    SheetCount,
+    SheetFilling,
+    NotInSheet,
+    Framing,
+    Roll,
+    NotInRoll,
 }
 
-// Reading a table.
-#[derive(Clone, Copy)]
-pub enum Reading {
-    Read,
-    Refused(u64, u64),
+impl Refusal {
+    pub fn number(self) -> u64
+        ensures { result ≡ refusal_number self }
+    {
+        match self {
+            Refusal::CutShort => 1,
+            Refusal::Hyperperiod => 2,
+            Refusal::Wires => 3,
+            Refusal::Channels => 4,
+            Refusal::RateCode(_) => 5,
+            Refusal::Payload(_) => 6,
+            Refusal::Period(_) => 7,
+            Refusal::Hops(_) => 8,
+            Refusal::RouteWire(_) => 9,
+            Refusal::RouteOrder(_) => 10,
+            Refusal::Further => 11,
+            Refusal::Load(_) => 12,
+            Refusal::Room(_) => 13,
+            Refusal::Deadline(_) => 14,
+            Refusal::Buffer => 15,
+            Refusal::SheetLength => 16,
+            Refusal::SheetCount => 17,
+            Refusal::SheetFilling => 18,
+            Refusal::NotInSheet => 19,
+            Refusal::Framing => 20,
+            Refusal::Roll => 21,
+            Refusal::NotInRoll => 22,
+        }
+    }
+
+    pub fn place(self) -> usize
+        ensures { result ≡ refusal_place self }
+    {
+        match self {
+            Refusal::RateCode(wire) | Refusal::Load(wire) | Refusal::Room(wire) => wire,
+            Refusal::Payload(channel)
+            | Refusal::Period(channel)
+            | Refusal::Hops(channel)
+            | Refusal::RouteWire(channel)
+            | Refusal::RouteOrder(channel)
+            | Refusal::Deadline(channel) => channel,
+            _ => 0,
+        }
+    }
 }
 
-// Judging a table: the sheet's length.
-#[derive(Clone, Copy)]
-pub enum Judging {
-    Accepted(u64),
-    Refused(u64, u64),
+// Its number and its place.
+impl fmt::Display for Refusal {
+    ghost output = { λ refusal. Some (refusal_text refusal) };
+
+    fn fmt<W: fmt::Write>(&self, f: &mut fmt::Formatter<W>) -> fmt::Result {
+        write!(f, "{} {}", self.number(), self.place())
+    }
 }
 
-// Writing a sheet: its length; nothing where a count or a figure does not fit the sheet, or the sheet the lent buffer.
+impl Error for Refusal {}
+
+// Of a wire what a table says of it. As narrow as the fields are: a Table is copied where it is handed on, on a stack that is
+// kept short.
 #[derive(Clone, Copy)]
-pub enum Written {
-    Length(u64),
-    Nothing,
+pub struct Wire {
+    pub rate: u64,
+    pub prop: u32,
+    pub room: u32,
 }
 
-// Asking a sheet for a wire: backlog and delay.
+// Of a channel its price, H / period, deadline, hops, and the wires of its route, with 0 past its hops.
+// There is no heap, so the route is an array with its count, `hops`, beside it.
 #[derive(Clone, Copy)]
-pub enum AskedWire {
-    Figures(u64, u64),
-    Refused(u64, u64),
+pub struct Channel {
+    pub price: u32,
+    pub times: u32,
+    pub deadline: u32,
+    pub hops: u8,
+    pub route: [u8; Table::HOPS_MOST],
 }
 
-// Asking a sheet for a channel: end-to-end delay.
-#[derive(Clone, Copy)]
-pub enum AskedChannel {
-    Delay(u64),
-    Refused(u64, u64),
-}
-
-// Asking a roll for a label: where it starts in the roll, and its length.
-#[derive(Clone, Copy)]
-pub enum AskedLabel {
-    Stretch(u64, u64),
-    Refused(u64, u64),
-}
-
-// A table as read: of each wire its rate, propagation and room, of each channel its price, H / period, deadline, hops and
-// route, with the wire of hop i of channel c at 8 * c + i. What stands past its wires, channels and hops is 0.
+// A table as read. What stands past its wires and channels is 0.
+// There is no heap, so each array stands with its count, `wires` or `channels`, beside it.
 #[derive(Clone, Copy)]
 pub struct Table {
     pub hyper: u64,
     pub wires: usize,
     pub channels: usize,
-    pub rate: [u64; Table::WIRES_MOST],
-    pub prop: [u64; Table::WIRES_MOST],
-    pub room: [u64; Table::WIRES_MOST],
-    pub price: [u64; Table::CHANNELS_MOST],
-    pub times: [u64; Table::CHANNELS_MOST],
-    pub deadline: [u64; Table::CHANNELS_MOST],
-    pub hops: [u8; Table::CHANNELS_MOST],
-    pub route: [u8; Table::ROUTES_MOST],
+    pub wire: [Wire; Table::WIRES_MOST],
+    pub channel: [Channel; Table::CHANNELS_MOST],
 }
 
-// What reading a table leaves: the answer, and the table, which is all 0 on a refusal.
+// Of a wire what is worked out.
 #[derive(Clone, Copy)]
-pub struct TableRead {
-    pub answer: Reading,
-    pub table: Table,
+pub struct WireFigures {
+    pub backlog: u64,
+    pub delay: u64,
 }
 
-// Of each wire its backlog and delay, of each channel its end-to-end delay, and 0 past them.
+// Of each wire its figures, of each channel its end-to-end delay, and 0 past them.
 #[derive(Clone, Copy)]
 pub struct Figures {
-    pub backlog: [u64; Table::WIRES_MOST],
-    pub delay: [u64; Table::WIRES_MOST],
+    pub wire: [WireFigures; Table::WIRES_MOST],
     pub end: [u64; Table::CHANNELS_MOST],
 }
 
-// What working out the bounds leaves: the answer to tests 1 to 13, the table and its figures, which are all 0 on a refusal.
+// What working out the bounds leaves: the table and its figures.
 #[derive(Clone, Copy)]
 pub struct Bounded {
-    pub answer: Reading,
     pub table: Table,
     pub figures: Figures,
+}
+
+// Where a label starts in its roll, and its length.
+#[derive(Clone, Copy)]
+pub struct Stretch {
+    pub start: usize,
+    pub length: usize,
 }
 
 impl Table {

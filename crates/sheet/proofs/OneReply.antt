@@ -27,8 +27,8 @@ module _ (κs : Lfts 1) where
       channel-reads.Post κs a r e → channel-reads.Post κs a r' e' → r ≡ r'
   ask-channel-one a r r' e e' p q = channel-one r r' (p ∙ sym q)
 
-  pub write-one :
-      (a : ArgsD write.signature κs) (r r' : ResD write.signature κs)
-      (e e' : AtExit (ended_of 1 write-kinds.ps write-kinds.r) κs) →
-      write-reads.Post κs a r e → write-reads.Post κs a r' e' → (r ≡ r') × (e.0.now ≡ e'.0.now)
-  write-one a r r' e e' p q = (p.0 ∙ sym q.0, p.1 ∙ sym q.1)
+pub write-one :
+    (κs : Lfts 2) (a : ArgsD write.signature κs) (r r' : ResD write.signature κs)
+    (e e' : AtExit (ended_of 2 write-kinds.ps write-kinds.r) κs) →
+    write-reads.Post κs a r e → write-reads.Post κs a r' e' → (r ≡ r') × (e.0.now ≡ e'.0.now)
+write-one κs a r r' e e' p q = (p.0 ∙ sym q.0, p.1 ∙ sym q.1)

@@ -4,7 +4,9 @@ use contract.Lifetimes.{Lfts}
 use denote.Triple.Clauses.{AtExit}
 use borrow.Fn.World.{ArgsD, ResD}
 use borrow.Fn.Kinds.{ended_of}
-use Rattle.rules.proofs.Replies.{reading-one}
+use Rattle.rules.specs.Table.{view_of}
+use Rattle.rules.specs.Decoded.{table_of}
+use Rattle.rules.proofs.Replies.{granted-one}
 use Rattle.table.specs.contracts.none as none
 use Rattle.table.proofs.none.Kinds as none-kinds
 use Rattle.table.proofs.none.Reads as none_reads
@@ -22,7 +24,4 @@ module _ (κs : Lfts 1) where
   pub read-one :
       (a : ArgsD read.signature κs) (r r' : ResD read.signature κs) (e e' : AtExit (ended_of 1 read-kinds.ps read-kinds.r) κs)
       → read-reads.Post κs a r e → read-reads.Post κs a r' e' → r ≡ r'
-  read-one a r r' e e' p q =
-      let answers = reading-one r.answer r'.answer (p.0 ∙ sym q.0) in
-      let tables = p.1 ∙ sym q.1 in
-      λ i. record { answer = answers i; table = tables i }
+  read-one a r r' e e' p q = granted-one (table_of (view_of a.0.now)) r r' (p.0 ∙ sym q.0) p.1 q.1

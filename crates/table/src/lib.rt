@@ -1,79 +1,54 @@
 // Reading a table: tests 1 to 11 in one pass, each field read once.
+// Between usize and u64, both of 64 bits, there is no From: there `as` stands, and where a field is narrower than what it was
+// read as; it loses nothing.
 #![tactic(auto)]
 
-ghost use Rattle.std.specs.Prelude.{◌≡◌, ◌*◌, ◌≤◌, ◌<◌, length};
-ghost use Rattle.rules.specs.Numbers.{wires_most, channels_most, payload_most, table_longest};
-ghost use Rattle.rules.specs.Replies.{Reply, reading_reply, each, after, IfRead};
-ghost use Rattle.rules.specs.Price.{price as price_of};
-ghost use Rattle.rules.specs.Table.{view_of, hyper_of, wires_of, end_of};
-ghost use Rattle.rules.specs.Reading.{head_tests, wire_tests, channel_tests, filling_tests, reading};
-ghost use Rattle.rules.specs.Decoded.{table_left, no_table};
-ghost use Rattle.table.specs.Stages.{HeadRead, WiresRead, FixedAnswered, FixedRead, ChannelsRead, whole_of};
+ghost use Rattle.std.specs.Prelude.{◌≡◌, ◌*◌, ◌+◌, ◌≤◌, ◌<◌, length, replicate, IfOk, OnOk};
+ghost use Rattle.rules.specs.Numbers.{wires_most, channels_most, hop_bits, hops_most, table_longest};
+ghost use Rattle.rules.specs.Words.{entries};
+ghost use Rattle.rules.specs.Replies.{Reply, reading_reply, each, after, Answered};
+ghost use Rattle.rules.specs.Table.{view_of, hyper_of, route_at, channel_at, end_of};
+ghost use Rattle.rules.specs.Channel.{route_tests};
+ghost use Rattle.rules.specs.Reading.{head_tests, wire_tests, record_tests, channel_tests, filling_tests, reading};
+ghost use Rattle.rules.specs.Decoded.{column, no_wire, wire_of, no_channel, channel_of, table_of, no_table};
+ghost use Rattle.table.specs.Stages.{HeadRead, hops_left, FixedRead, ChannelRead, ChannelsEnd};
 
-use rules::{Pricing, Reading, Table, TableRead};
+use rules::{Channel, Refusal, Table, Wire};
 
-// Of a record's fixed bits, those up to its deadline.
-const SENT_BITS: usize = Table::FRAMING_BITS + Table::PAYLOAD_BITS + Table::PERIOD_BITS;
+// Of a record's fixed bits those up to its deadline, and of these the ones behind its framing.
+const SENT_BITS: usize = Table::FRAMING_BITS + BEHIND_FRAMING;
+
+const BEHIND_FRAMING: usize = Table::PAYLOAD_BITS + Table::PERIOD_BITS;
+
+// What stands past a table's wires, and past its channels.
+const NO_WIRE: Wire = Wire {
+    rate: 0,
+    prop: 0,
+    room: 0,
+};
+
+const NO_CHANNEL: Channel = Channel {
+    price: 0,
+    times: 0,
+    deadline: 0,
+    hops: 0,
+    route: [0; Table::HOPS_MOST],
+};
 
 #[derive(Clone, Copy)]
 struct Head {
-    answer: Reading,
     hyper: u64,
     wires: usize,
     channels: usize,
 }
 
-#[derive(Clone, Copy)]
-struct Wires {
-    answer: Reading,
-    rate: [u64; Table::WIRES_MOST],
-    prop: [u64; Table::WIRES_MOST],
-    room: [u64; Table::WIRES_MOST],
-}
-
-// Of one channel's record, what its fixed fields tell.
-#[derive(Clone, Copy)]
-struct Fixed {
-    answer: Reading,
-    price: u64,
-    times: u64,
-    deadline: u64,
-    hops: usize,
-}
-
-#[derive(Clone, Copy)]
-struct Channels {
-    answer: Reading,
-    end: usize,
-    price: [u64; Table::CHANNELS_MOST],
-    times: [u64; Table::CHANNELS_MOST],
-    deadline: [u64; Table::CHANNELS_MOST],
-    hops: [u8; Table::CHANNELS_MOST],
-    route: [u8; Table::ROUTES_MOST],
-}
-
-fn price_of(framing: u64, payload: u64) -> u64
-    requires { (framing < 2) × (1 ≤ payload) × (payload ≤ payload_most) }
-    ensures { result ≡ price_of framing payload }
-{
-    match framing::price(framing, payload) {
-        Pricing::Price(p) => p,
-        Pricing::Refused(_, _) => 0,
-    }
-}
-
 // The three header fields are read whole before 2, 3, 4.
-fn head_of(s: &[u8]) -> Head
-    ensures rest_value { (rest : Reply) → head_tests s.now rest ≡ after result.answer rest }
-    ensures if_read { IfRead result.answer (HeadRead s.now result) }
+fn head_of(s: &[u8]) -> Result<Head, Refusal>
+    ensures answered { Answered (head_tests s.now) result }
+    ensures told { IfOk result (λ r. HeadRead s.now r) }
 {
     if !bits::holds(s, 0, Table::HEAD_BITS) {
-        return Head {
-            answer: Reading::Refused(1, 0),
-            hyper: 0,
-            wires: 0,
-            channels: 0,
-        };
+        return Err(Refusal::CutShort);
     }
     let hyper = bits::number(s, 0, Table::HYPER_BITS);
     let wires = bits::number(s, Table::HYPER_BITS, Table::WIRES_BITS) as usize;
@@ -82,90 +57,72 @@ fn head_of(s: &[u8]) -> Head
         Table::HYPER_BITS + Table::WIRES_BITS,
         Table::CHANNELS_BITS,
     ) as usize;
-    let answer = if hyper < 1 {
-        Reading::Refused(2, 0)
-    } else if (Table::HYPER_MOST as u64) < hyper {
-        Reading::Refused(2, 0)
-    } else if wires < 1 {
-        Reading::Refused(3, 0)
-    } else if Table::WIRES_MOST < wires {
-        Reading::Refused(3, 0)
-    } else if channels < 1 {
-        Reading::Refused(4, 0)
-    } else if Table::CHANNELS_MOST < channels {
-        Reading::Refused(4, 0)
-    } else {
-        Reading::Read
-    };
-    Head {
-        answer,
+    if !(1..=Table::HYPER_MOST as u64).contains(&hyper) {
+        return Err(Refusal::Hyperperiod);
+    }
+    if !(1..=Table::WIRES_MOST).contains(&wires) {
+        return Err(Refusal::Wires);
+    }
+    if !(1..=Table::CHANNELS_MOST).contains(&channels) {
+        return Err(Refusal::Channels);
+    }
+    Ok(Head {
         hyper,
         wires,
         channels,
-    }
+    })
 }
 
-// Each wire record is read whole before 5.
-fn wires_of(s: &[u8], n: usize) -> Wires
-    requires { n ≤ wires_most }
-    ensures rest_value { (rest : Reply) → each (wire_tests s.now) 0 n rest ≡ after result.answer rest }
-    ensures if_read { IfRead result.answer (WiresRead s.now n result) }
+// A wire's record is read whole before 5.
+fn wire_of(s: &[u8], w: usize) -> Result<Wire, Refusal>
+    requires { w < wires_most }
+    ensures answered { Answered (wire_tests s.now w) result }
+    ensures told { IfOk result (λ r. r ≡ wire_of (view_of s.now) w) }
 {
-    let mut found = Reading::Read;
-    let mut rate = [0u64; Table::WIRES_MOST];
-    let mut prop = [0u64; Table::WIRES_MOST];
-    let mut room = [0u64; Table::WIRES_MOST];
-    for w in 0..n {
-        let at = Table::HEAD_BITS + Table::WIRE_BITS * w;
-        if !bits::holds(s, at, Table::WIRE_BITS) {
-            found = Reading::Refused(1, 0);
-            break;
-        }
-        // No code has the rate 0.
-        let wire = bits::number(s, at, Table::WIRE_BITS);
-        let bytes = framing::rate(bits::part(
-            wire,
-            Table::PROP_BITS + Table::ROOM_BITS,
-            Table::RATE_BITS,
-        ));
-        if bytes == 0 {
-            found = Reading::Refused(5, w as u64);
-            break;
-        }
-        rate[w] = bytes;
-        prop[w] = bits::part(wire, Table::ROOM_BITS, Table::PROP_BITS);
-        room[w] = bits::part(wire, 0, Table::ROOM_BITS);
+    let at = Table::HEAD_BITS + Table::WIRE_BITS * w;
+    if !bits::holds(s, at, Table::WIRE_BITS) {
+        return Err(Refusal::CutShort);
     }
-    Wires {
-        answer: found,
+    let record = bits::number(s, at, Table::WIRE_BITS);
+    let code = bits::part(
+        record,
+        Table::PROP_BITS + Table::ROOM_BITS,
+        Table::RATE_BITS,
+    );
+    // No code has the rate 0.
+    let rate = framing::rate(code);
+    if rate == 0 {
+        return Err(Refusal::RateCode(w));
+    }
+    Ok(Wire {
         rate,
-        prop,
-        room,
-    }
+        prop: bits::part(record, Table::ROOM_BITS, Table::PROP_BITS) as u32,
+        room: bits::part(record, 0, Table::ROOM_BITS) as u32,
+    })
 }
 
-fn no_fixed(number: u64, place: u64) -> Fixed
-    ensures { result.answer ≡ Reading.Refused number place }
+// Into the first n places.
+fn wires_of(s: &[u8], n: usize, wires: &mut [Wire; Table::WIRES_MOST]) -> Result<(), Refusal>
+    requires most { n ≤ wires_most }
+    requires none { wires.old ≡ replicate wires_most no_wire }
+    ensures answered { Answered (each (wire_tests s.now) 0 n) result }
+    ensures told { OnOk result (wires.new ≡ column no_wire wires_most n (wire_of (view_of s.now))) }
 {
-    Fixed {
-        answer: Reading::Refused(number, place),
-        price: 0,
-        times: 0,
-        deadline: 0,
-        hops: 0,
+    for (w, wire) in wires[..n].iter_mut().enumerate() {
+        *wire = wire_of(s, w)?;
     }
+    Ok(())
 }
 
 // Channel c's fixed bits, from bit at, are read whole before 6, 7, 8; then its route's bits have to be there.
-fn fixed_of(s: &[u8], hyper: u64, c: usize, at: usize) -> Fixed
+fn fixed_of(s: &[u8], hyper: u64, c: usize, at: usize) -> Result<Channel, Refusal>
     requires hyper_value { hyper ≡ hyper_of s.now }
     requires at_bound { at ≤ 8 * table_longest }
-    ensures fixed_answered { FixedAnswered s.now c at result.answer }
-    ensures if_read { IfRead result.answer (FixedRead s.now at result) }
+    ensures answered { (rest : Reply) → record_tests s.now c at rest ≡ after result (hops_left s.now c at rest) }
+    ensures told { IfOk result (λ r. FixedRead s.now at r) }
 {
-    let place = c as u64;
     if !bits::holds(s, at, Table::FIXED_BITS) {
-        return no_fixed(1, 0);
+        return Err(Refusal::CutShort);
     }
     let sent = bits::number(s, at, SENT_BITS);
     let due = bits::number(s, at + SENT_BITS, Table::DEADLINE_BITS + Table::HOPS_BITS);
@@ -173,111 +130,85 @@ fn fixed_of(s: &[u8], hyper: u64, c: usize, at: usize) -> Fixed
     let period = bits::part(sent, 0, Table::PERIOD_BITS);
     let hops = bits::part(due, 0, Table::HOPS_BITS) as usize;
     if payload == 0 {
-        return no_fixed(6, place);
+        return Err(Refusal::Payload(c));
     }
-    if period == 0 {
-        return no_fixed(7, place);
+    if period == 0 || hyper % period != 0 {
+        return Err(Refusal::Period(c));
     }
-    if hyper % period != 0 {
-        return no_fixed(7, place);
-    }
-    if hops < 1 {
-        return no_fixed(8, place);
-    }
-    if Table::HOPS_MOST < hops {
-        return no_fixed(8, place);
+    if !(1..=Table::HOPS_MOST).contains(&hops) {
+        return Err(Refusal::Hops(c));
     }
     if !bits::holds(s, at + Table::FIXED_BITS, Table::HOP_BITS * hops) {
-        return no_fixed(1, 0);
+        return Err(Refusal::CutShort);
     }
-    Fixed {
-        answer: Reading::Read,
-        price: price_of(
-            bits::part(
-                sent,
-                Table::PAYLOAD_BITS + Table::PERIOD_BITS,
-                Table::FRAMING_BITS,
-            ),
-            payload,
-        ),
-        times: hyper / period,
-        deadline: bits::part(due, Table::HOPS_BITS, Table::DEADLINE_BITS),
-        hops,
-    }
+    let framing = bits::part(sent, BEHIND_FRAMING, Table::FRAMING_BITS);
+    // Never refused: the framing is one bit, and the payload not 0.
+    let price = framing::price(framing, payload)?;
+    let deadline = bits::part(due, Table::HOPS_BITS, Table::DEADLINE_BITS);
+    Ok(Channel {
+        price: price as u32,
+        times: (hyper / period) as u32,
+        deadline: deadline as u32,
+        hops: hops as u8,
+        ..NO_CHANNEL
+    })
 }
 
-// The search over channels and hops ends at the first fault; 9 and 10 are tested hop by hop.
-fn channels_of(s: &[u8], hyper: u64, n: usize, m: usize) -> Channels
-    requires hyper_value { hyper ≡ hyper_of s.now }
-    requires n_value { n ≡ wires_of s.now }
-    requires counts { (n ≤ wires_most) × (1 ≤ m) × (m ≤ channels_most) }
-    ensures rest_value { (rest : Reply) → each (channel_tests s.now) 0 m rest ≡ after result.answer rest }
-    ensures if_read { IfRead result.answer (ChannelsRead s.now m result) }
+// Into the first places; the bit at which the last of them ends. The search over channels and hops ends at the first fault; 9 and
+// 10 are tested hop by hop. Nested loops that are left by a label are the form that document 01 names for this place.
+fn channels_of(
+    s: &[u8],
+    head: Head,
+    channels: &mut [Channel; Table::CHANNELS_MOST],
+) -> Result<usize, Refusal>
+    requires head_read { HeadRead s.now head }
+    requires none { channels.old ≡ replicate channels_most no_channel }
+    ensures answered { Answered (each (channel_tests s.now) 0 head.channels) result }
+    ensures told { OnOk result (channels.new ≡ column no_channel channels_most head.channels (channel_of (view_of s.now))) }
+    ensures end { IfOk result (λ end. ChannelsEnd s.now head.channels end) }
 {
-    let mut found = Reading::Read;
-    let mut end = Table::HEAD_BITS + Table::WIRE_BITS * n;
-    let mut price = [0u64; Table::CHANNELS_MOST];
-    let mut times = [0u64; Table::CHANNELS_MOST];
-    let mut deadline = [0u64; Table::CHANNELS_MOST];
-    let mut hops = [0u8; Table::CHANNELS_MOST];
-    let mut route = [0u8; Table::ROUTES_MOST];
-    'search: for c in 0..m {
-        let fixed = fixed_of(s, hyper, c, end);
-        let answer = fixed.answer;
-        if let Reading::Refused(number, place) = answer {
-            found = Reading::Refused(number, place);
-            break 'search;
-        }
+    let mut found = Ok(());
+    let mut end = Table::HEAD_BITS + Table::WIRE_BITS * head.wires;
+    'search: for (c, channel) in channels[..head.channels].iter_mut().enumerate() {
+        let fixed = fixed_of(s, head.hyper, c, end)?;
         let at = end + Table::FIXED_BITS;
-        let count = fixed.hops;
-        let wires = bits::number(s, at, Table::HOP_BITS * count);
-        let mut least: u64 = 0;
-        for i in 0..count {
-            let wire = bits::part(wires, Table::HOP_BITS * (count - 1 - i), Table::HOP_BITS);
-            if n as u64 <= wire {
-                found = Reading::Refused(9, c as u64);
+        let hops = usize::from(fixed.hops);
+        let wires = bits::number(s, at, Table::HOP_BITS * hops);
+        let mut route = NO_CHANNEL.route;
+        let mut least = 0;
+        for (i, hop) in route[..hops].iter_mut().enumerate() {
+            let wire = bits::part(wires, Table::HOP_BITS * (hops - 1 - i), Table::HOP_BITS);
+            if head.wires as u64 <= wire {
+                found = Err(Refusal::RouteWire(c));
                 break 'search;
             }
             if wire < least {
-                found = Reading::Refused(10, c as u64);
+                found = Err(Refusal::RouteOrder(c));
                 break 'search;
             }
-            route[Table::HOPS_MOST * c + i] = wire as u8;
+            *hop = wire as u8;
             least = wire + 1;
         }
-        price[c] = fixed.price;
-        times[c] = fixed.times;
-        deadline[c] = fixed.deadline;
-        hops[c] = count as u8;
-        end = at + Table::HOP_BITS * count;
+        *channel = Channel { route, ..fixed };
+        end = at + Table::HOP_BITS * hops;
     }
-    Channels {
-        answer: found,
-        end,
-        price,
-        times,
-        deadline,
-        hops,
-        route,
-    }
+    found?;
+    Ok(end)
 }
 
 // 11: a further byte, or a filling bit not 0.
-fn filling_of(s: &[u8], end: usize) -> Reading
+fn filling_of(s: &[u8], end: usize) -> Result<(), Refusal>
     requires end_value { end ≡ end_of s.now }
     requires end_bound { (end ≤ 8 * table_longest) × (end ≤ 8 * length s.now) }
-    ensures { (rest : Reply) → filling_tests s.now rest ≡ after result rest }
+    ensures { Answered (filling_tests s.now) result }
 {
-    if (end + 7) / 8 < s.len() {
-        return Reading::Refused(11, 0);
+    if end.div_ceil(8) < s.len() || bits::number(s, end, 8 * s.len() - end) != 0 {
+        return Err(Refusal::Further);
     }
-    if bits::number(s, end, 8 * s.len() - end) != 0 {
-        return Reading::Refused(11, 0);
-    }
-    Reading::Read
+    Ok(())
 }
 
-// What stands for a table that is refused: all 0.
+// No table: all 0. What reading starts from.
 pub fn none() -> Table
     ensures { result ≡ no_table }
 {
@@ -285,78 +216,24 @@ pub fn none() -> Table
         hyper: 0,
         wires: 0,
         channels: 0,
-        rate: [0; Table::WIRES_MOST],
-        prop: [0; Table::WIRES_MOST],
-        room: [0; Table::WIRES_MOST],
-        price: [0; Table::CHANNELS_MOST],
-        times: [0; Table::CHANNELS_MOST],
-        deadline: [0; Table::CHANNELS_MOST],
-        hops: [0; Table::CHANNELS_MOST],
-        route: [0; Table::ROUTES_MOST],
+        wire: [NO_WIRE; Table::WIRES_MOST],
+        channel: [NO_CHANNEL; Table::CHANNELS_MOST],
     }
 }
 
-fn refused(number: u64, place: u64) -> TableRead
-    ensures { (result.answer ≡ Reading.Refused number place) × (result.table ≡ no_table) }
+// Header, wires, channels, filling. Out of line, so that the table as it is filled leaves the stack.
+#[inline(never)]
+pub fn read(s: &[u8]) -> Result<Table, Refusal>
+    ensures answer_value { reading_reply result ≡ reading s.now }
+    ensures table_value { IfOk result (λ t. t ≡ table_of (view_of s.now)) }
 {
-    TableRead {
-        answer: Reading::Refused(number, place),
-        table: none(),
-    }
-}
-
-// What was read, put together.
-fn whole(head: Head, wires: Wires, channels: Channels) -> TableRead
-    ensures { result ≡ whole_of head wires channels }
-{
-    let rate = wires.rate;
-    let prop = wires.prop;
-    let room = wires.room;
-    let price = channels.price;
-    let times = channels.times;
-    let deadline = channels.deadline;
-    let hops = channels.hops;
-    let route = channels.route;
-    TableRead {
-        answer: Reading::Read,
-        table: Table {
-            hyper: head.hyper,
-            wires: head.wires,
-            channels: head.channels,
-            rate,
-            prop,
-            room,
-            price,
-            times,
-            deadline,
-            hops,
-            route,
-        },
-    }
-}
-
-// Header, wires, channels, filling; on a refusal the table is all 0.
-pub fn read(s: &[u8]) -> TableRead
-    ensures answer_value { reading_reply result.answer ≡ reading s.now }
-    ensures table_value { result.table ≡ table_left (reading s.now) (view_of s.now) }
-{
-    let head = head_of(s);
-    let answer = head.answer;
-    if let Reading::Refused(number, place) = answer {
-        return refused(number, place);
-    }
-    let wires = wires_of(s, head.wires);
-    let answer = wires.answer;
-    if let Reading::Refused(number, place) = answer {
-        return refused(number, place);
-    }
-    let channels = channels_of(s, head.hyper, head.wires, head.channels);
-    let answer = channels.answer;
-    if let Reading::Refused(number, place) = answer {
-        return refused(number, place);
-    }
-    if let Reading::Refused(number, place) = filling_of(s, channels.end) {
-        return refused(number, place);
-    }
-    whole(head, wires, channels)
+    let head = head_of(s)?;
+    let mut table = none();
+    table.hyper = head.hyper;
+    table.wires = head.wires;
+    table.channels = head.channels;
+    wires_of(s, head.wires, &mut table.wire)?;
+    let end = channels_of(s, head, &mut table.channel)?;
+    filling_of(s, end)?;
+    Ok(table)
 }

@@ -1,1 +1,4 @@
+pub mod Judged
 pub mod OneReply
+pub mod Rows
+pub mod Turns

@@ -1,86 +1,60 @@
 // A line's words, and the numbers and byte strings that they spell.
-ghost use Rattle.std.specs.Prelude.{◌≤◌};
-ghost use Rattle.console.specs.Reading.{IsPrefixLen};
+ghost use Rattle.std.specs.Prelude.{◌<◌, IfSome};
 
 // What follows the first word and its blank.
 pub(crate) fn rest(s: &[u8]) -> &[u8] {
-    let end = console::find(s, b' ');
-    if end < s.len() {
-        let from = end + 1;
-        &s[from..]
-    } else {
-        &s[end..]
+    match s.iter().position(|byte| *byte == b' ') {
+        Some(blank) => &s[blank + 1..],
+        None => &[],
     }
-}
-
-// The first byte, or 0.
-pub(crate) fn kind(s: &[u8]) -> u8 {
-    if 0 < s.len() { s[0] } else { 0 }
 }
 
 // The decimal number that s starts with; it ends before a digit that would take it past 64 bits.
 pub(crate) fn number(s: &[u8]) -> u64 {
     let mut n: u64 = 0;
-    let mut i = 0;
-    while i < s.len() {
-        let digit = hex_digit(s[i]);
-        if 9 < digit {
-            return n;
-        }
-        if (u64::MAX - digit) / 10 < n {
-            return n;
-        }
-        n = 10 * n + digit;
-        i += 1;
+    for byte in s {
+        let Some(more) = with_digit(n, *byte) else {
+            break;
+        };
+        n = more;
     }
     n
 }
 
-// The value of a hexadecimal digit in lower case, or 16.
-fn hex_digit(b: u8) -> u64
-    ensures { result ≤ 16 }
+// The number with one digit more.
+fn with_digit(n: u64, digit: u8) -> Option<u64> {
+    let digit = char::from(digit).to_digit(10)?;
+    n.checked_mul(10)?.checked_add(u64::from(digit))
+}
+
+// The value of a hexadecimal digit in lower case.
+// By hand: `to_digit(16)` takes capital letters too.
+fn hex_digit(byte: u8) -> Option<u8>
+    ensures { IfSome result (λ digit. digit < 16) }
 {
-    if b < b'0' {
-        16
-    } else if b <= b'9' {
-        (b - b'0') as u64
-    } else if b < b'a' {
-        16
-    } else if b <= b'f' {
-        (b - b'a' + 10) as u64
-    } else {
-        16
+    match byte {
+        b'0'..=b'9' => Some(byte - b'0'),
+        b'a'..=b'f' => Some(byte - b'a' + 10),
+        _ => None,
     }
 }
 
-// The n-th byte of a string written as two hexadecimal digits each, or 256 where there is none.
-fn hex_byte(s: &[u8], n: usize) -> u64 {
-    if s.len() / 2 <= n {
-        return 256;
-    }
-    let high = hex_digit(s[2 * n]);
-    if 15 < high {
-        return 256;
-    }
-    let low = hex_digit(s[2 * n + 1]);
-    if 15 < low {
-        return 256;
-    }
-    16 * high + low
+// The byte of two hexadecimal digits.
+fn hex_byte(digits: &[u8]) -> Option<u8> {
+    let [high, low] = digits else {
+        return None;
+    };
+    Some(16 * hex_digit(*high)? + hex_digit(*low)?)
 }
 
-// Puts the bytes that s starts with, in hexadecimal, at the start of out, and answers how many there are: none in "-".
-pub(crate) fn bytes(s: &[u8], out: &mut [u8]) -> usize
-    ensures { IsPrefixLen result out.new }
-{
-    let mut n = 0;
-    while n < out.len() {
-        let byte = hex_byte(s, n);
-        if 255 < byte {
-            return n;
-        }
-        out[n] = byte as u8;
-        n += 1;
+// Puts the bytes that s starts with, in hexadecimal, at the start of out: none in "-".
+pub(crate) fn bytes<'a>(s: &[u8], out: &'a mut [u8]) -> &'a [u8] {
+    let mut pairs = s.chunks_exact(2);
+    for (n, place) in out.iter_mut().enumerate() {
+        let Some(byte) = pairs.next().and_then(hex_byte) else {
+            return &out[..n];
+        };
+        *place = byte;
     }
-    n
+    out
 }

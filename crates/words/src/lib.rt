@@ -2,27 +2,14 @@
 // is one place: it says that something did not fit.
 #![tactic(auto)]
 
-ghost use Rattle.std.specs.Prelude.{suc, ◌+◌, ◌≤◌, ◌≡◌, [], ◌∷◌, length, take, drop};
-ghost use Rattle.rules.specs.Text.{digits_most, decimal, spaced, line, laid, place_after};
+ghost use Rattle.std.specs.Prelude.{suc, ◌≤◌, ◌≡◌, [], ◌∷◌, length};
+ghost use Rattle.rules.specs.Text.{decimal, spaced, line, laid, place_after};
 
 // The most digits of a number.
 const DIGITS: usize = 20;
 
-const BLANK: [u8; 1] = [32];
-
-const NEWLINE: [u8; 1] = [10];
-
-// The first n bytes of a word.
-fn copy(lent: &mut [u8], at: usize, word: &[u8], n: usize)
-    requires in_lent { at + n ≤ length lent.old }
-    requires in_word { n ≤ length word.now }
-    ensures { lent.new ≡ laid lent.old at (take n word.now) }
-{
-    for i in 0..n {
-        lent[at + i] = word[i];
-    }
-}
-
+// The place past the end and no Option: its clause `value` reads it by `place_after`, which has that place.
+#[tactic(auto, using(crate::proofs::Placed::placed))]
 pub fn put(lent: &mut [u8], at: usize, word: &[u8]) -> usize
     ensures value { result ≡ place_after (length lent.old) at word.now }
     ensures lent_after { lent.new ≡ laid lent.old at word.now }
@@ -32,28 +19,29 @@ pub fn put(lent: &mut [u8], at: usize, word: &[u8]) -> usize
     }
     let room = lent.len() - at;
     if word.len() > room {
-        copy(lent, at, word, room);
+        lent[at..].copy_from_slice(&word[..room]);
         return lent.len() + 1;
     }
-    copy(lent, at, word, word.len());
-    at + word.len()
+    let end = at + word.len();
+    lent[at..end].copy_from_slice(word);
+    end
 }
 
-// The digits of n stand at the end of the row, from the place that is replied.
-fn digits(n: u64, row: &mut [u8]) -> usize
-    requires { length row.old ≡ digits_most }
-    ensures upper_bound { result ≤ digits_most }
-    ensures row_after { drop result row.new ≡ decimal n }
+// The digits of n, laid at the end of the row.
+// Digits by hand: the clauses here and in `put_number` are `decimal` and `laid`, which say the text of document 01.
+// By the place, where the answer starts: of what goes through `iter_mut().rev()` a proof knows nothing.
+fn digits(n: u64, row: &mut [u8; DIGITS]) -> &[u8]
+    ensures { result.now ≡ decimal n }
 {
     let mut rest = n;
-    let mut at = DIGITS - 1;
-    while rest > 9 {
-        row[at] = 48 + (rest % 10) as u8;
+    for at in (0..DIGITS).rev() {
+        row[at] = b'0' + (rest % 10) as u8;
         rest /= 10;
-        at -= 1;
+        if rest == 0 {
+            return &row[at..];
+        }
     }
-    row[at] = 48 + rest as u8;
-    at
+    unreachable!()
 }
 
 // A blank and a number.
@@ -61,10 +49,9 @@ fn put_number(lent: &mut [u8], at: usize, n: u64) -> usize
     ensures value { result ≡ place_after (length lent.old) at (spaced (n ∷ [])) }
     ensures lent_after { lent.new ≡ laid lent.old at (spaced (n ∷ [])) }
 {
-    let mut row = [0u8; DIGITS];
-    let from = digits(n, &mut row);
-    let blank = put(lent, at, &BLANK);
-    put(lent, blank, &row[from..])
+    let mut row = [0; DIGITS];
+    let blank = put(lent, at, b" ");
+    put(lent, blank, digits(n, &mut row))
 }
 
 fn put_numbers(lent: &mut [u8], at: usize, numbers: &[u64]) -> usize
@@ -73,18 +60,19 @@ fn put_numbers(lent: &mut [u8], at: usize, numbers: &[u64]) -> usize
     ensures lent_after { lent.new ≡ laid lent.old at (spaced numbers.now) }
 {
     let mut end = at;
-    for i in 0..numbers.len() {
-        end = put_number(lent, end, numbers[i]);
+    for number in numbers {
+        end = put_number(lent, end, *number);
     }
     end
 }
 
 // A word, each number after a blank, and a newline.
+// The place past the end and no Option, as in `put`: its clause `value` reads it by `place_after`.
 pub fn put_line(lent: &mut [u8], at: usize, word: &[u8], numbers: &[u64]) -> usize
     ensures value { result ≡ place_after (length lent.old) at (line word.now numbers.now) }
     ensures lent_after { lent.new ≡ laid lent.old at (line word.now numbers.now) }
 {
     let named = put(lent, at, word);
     let end = put_numbers(lent, named, numbers);
-    put(lent, end, &NEWLINE)
+    put(lent, end, b"\n")
 }

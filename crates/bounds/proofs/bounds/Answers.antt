@@ -1,47 +1,70 @@
-use Rattle.std.proofs.Common.{List, [], ℕ, ◌≡◌, ◌∙◌, sym, ap}
-use Rattle.rules.specs.declared.Reading.{Reading}
-use Rattle.rules.specs.declared.Reading.TheVariants as answers
+use Rattle.std.proofs.Common.{List, [], ℕ, ◌≡◌, Ok, sym}
+use Rattle.std.specs.Prelude.{Result, IfOk}
+use Rattle.std.proofs.lemmas.Result.{err_from_is_err_and}
+use Rattle.bits.proofs.Laws.{field_lt}
+use Rattle.rules.specs.declared.Table.{Table}
+use Rattle.rules.specs.declared.Refusal.{Refusal}
+use Rattle.rules.specs.Numbers.{room_bits, prop_bits}
 use Rattle.rules.specs.Replies.{granted, reading_reply}
+use Rattle.rules.specs.Table.{view_of, room_of, prop_of}
 use Rattle.rules.specs.Reading.{reading}
+use Rattle.rules.specs.Decoded.{table_of}
 use Rattle.rules.proofs.Tables.Laws.{granted-sound}
-use Rattle.rules.proofs.Tables.Told.{left-granted}
-use Rattle.bounds.proofs.Left.{left-unread, left_over, left-bounded}
+use Rattle.rules.proofs.Bounds.Judgement.{bounding-unread, bounding-stops, bounding-through}
+use Rattle.bounds.specs.Stages.{AsRead}
 use Rattle.bounds.proofs.bounds.Goals as goal
 
-whole : (s : List ℕ) {a : Reading} → reading_reply a ≡ reading s → a ≡ answers.Read → reading s ≡ granted []
-whole s h q = sym h ∙ ap reading_reply q
+as_read : (s : List ℕ) (r : Table) → granted [] ≡ reading s → r ≡ table_of (view_of s) → AsRead (view_of s) r
+unfolding room_of prop_of
+as_read s r whole e =
+    record {
+      sound = granted-sound s (sym whole);
+      room_fits = λ w. field_lt s _ room_bits;
+      prop_fits = λ w. field_lt s _ prop_bits;
+      table = e;
+    }
 
-pub returns-in-Refused : goal.returns-in-Refused
-returns-in-Refused c =
-    let read = c.read-read.ensures in
-    let left =
-    left-unread c.args.table.now c.read-read.result.answer c.read-read.result.table c.no_figures-figures.result
-    c.in-Refused.field-0 c.in-Refused.field-1 c.in-Refused.is read.answer_value read.table_value c.no_figures-figures.ensures in
-    record { answer_value = left.0; table_value = left.1.0; figures_value = left.1.1 }
+module _ (s : List ℕ) (a : Result Table Refusal) (x : Table) (is : a ≡ Ok x) (answer : reading_reply a ≡ reading s)
+    (value : IfOk a (λ t. t ≡ table_of (view_of s))) where
+  granted_read : granted [] ≡ reading s
+  granted_read = rw is at answer
 
-pub work_out-worked-requires : goal.work_out-worked-requires
-work_out-worked-requires c =
+  pub was-read : AsRead (view_of s) x
+  was-read = as_read s x granted_read (rw is at value)
+
+pub work_out-requires : goal.work_out-requires
+work_out-requires c =
+    let read = c.read-read in
     let s = c.args.table.now in
-    let whole : reading s ≡ granted [] = whole s c.read-read.ensures.answer_value c.in_default.is in
-    record { sound = granted-sound s whole; table = c.read-read.ensures.table_value ∙ left-granted s whole }
+    record {
+      as_read = (view_of s, was-read s read.result c.in-Ok.table c.in-Ok.is read.ensures.answer_value read.ensures.table_value);
+      none = c.no_figures-figures.ensures;
+    }
 
-pub returns-in-Refused-answer : goal.returns-in-Refused-answer
-returns-in-Refused-answer c =
+pub returns-in_err-work_out-in-Ok-clause-answer_value : goal.returns-in_err-work_out-in-Ok-clause-answer_value
+returns-in_err-work_out-in-Ok-clause-answer_value c =
+    let read = c.read-read in
     let s = c.args.table.now in
-    let worked = c.work_out-worked.ensures in
-    let left =
-    left_over s c.work_out-worked.result.answer c.none.result c.work_out-worked.result.figures
-    c.in-Refused-answer.field-0 c.in-Refused-answer.field-1 c.in-Refused-answer.is
-    (whole s c.read-read.ensures.answer_value c.in_default.is)
-    (λ rest. worked.answered rest ∙ rw c.in-Refused-answer.is) c.none.ensures worked.figures_value in
-    record { answer_value = left.0; table_value = left.1.0; figures_value = left.1.1 }
+    let t = view_of s in
+    let p = err_from_is_err_and c.from_residual.result c.from_residual.ensures.1 in
+    let was = was-read s read.result c.in-Ok.table c.in-Ok.is read.ensures.answer_value read.ensures.table_value in
+    let granted = granted_read s read.result c.in-Ok.table c.in-Ok.is read.ensures.answer_value read.ensures.table_value in
+    rw (p.1, p.2) (sym (bounding-stops s _ _ (sym granted) (rw c.in_err-work_out-in-Ok.was at c.work_out.ensures.answered t was)))
 
-pub returns : goal.returns
-returns c =
+pub returns-in_ok-work_out-in-Ok : goal.returns-in_ok-work_out-in-Ok
+returns-in_ok-work_out-in-Ok c =
+    let read = c.read-read in
     let s = c.args.table.now in
-    let worked = c.work_out-worked.ensures in
-    let left =
-    left-bounded s c.work_out-worked.result.answer c.read-read.result.table c.work_out-worked.result.figures
-    c.in_default-answer.is (whole s c.read-read.ensures.answer_value c.in_default.is)
-    (λ rest. worked.answered rest ∙ rw c.in_default-answer.is) c.read-read.ensures.table_value worked.figures_value in
-    record { answer_value = left.0; table_value = left.1.0; figures_value = left.1.1 }
+    let t = view_of s in
+    let was = was-read s read.result c.in-Ok.table c.in-Ok.is read.ensures.answer_value read.ensures.table_value in
+    let granted = granted_read s read.result c.in-Ok.table c.in-Ok.is read.ensures.answer_value read.ensures.table_value in
+    rw c.both.ensures (record {
+      answer_value = sym (bounding-through s (sym granted) (rw c.in_ok-work_out-in-Ok.was at c.work_out.ensures.answered t was));
+      table_value = was.table;
+      figures_value = rw c.in_ok-work_out-in-Ok.was at c.work_out.ensures.figures_value t was;
+    })
+
+pub returns-in-Err-clause-answer_value : goal.returns-in-Err-clause-answer_value
+returns-in-Err-clause-answer_value c =
+    let refused = rw c.in-Err.is at c.read-read.ensures.answer_value in
+    sym (bounding-unread c.args.table.now _ _ (sym refused))

@@ -1,75 +1,39 @@
-use Rattle.std.proofs.Common.{ℕ, List, ◌≡◌, ◌∙◌, ◌*◌, ◌<◌, get_or, refl, ap₂, arith}
-use native.Mathlib.Nat.{mul-le-mul}
+use Rattle.std.proofs.lemmas.Result.{err_from_is_err_and}
+use Rattle.rules.specs.Judgement.{load_tests}
+use Rattle.rules.specs.Table.{View}
 use Rattle.rules.specs.declared.Table.{Table}
-use Rattle.rules.specs.Numbers.{wires_most}
-use Rattle.rules.specs.Table.{View, view_of}
-use Rattle.rules.specs.Bounds.{part, on, load, load_of}
-use Rattle.rules.specs.Sound.{Sound}
-use Rattle.rules.proofs.Tables.Told.{Told, told, entry_at}
+use Rattle.rules.proofs.Tests.{Through}
 use Rattle.rules.proofs.Bounds.Judgement.{loads-pass}
-use Rattle.bounds.specs.Stages.{AsRead, FiledAll, Loads}
-use Rattle.bounds.proofs.Stretches.{filed-none, filed-stretch, next-load}
-use Rattle.bounds.proofs.Holding.{ahead_none}
-use Rattle.bounds.proofs.Left.{left-refused, loads-stop, loads-through, rooms-after}
+use Rattle.bounds.specs.Stages.{AsRead, ToWalk}
+use Rattle.bounds.proofs.Order.{loads-stop, loads-through, rooms-after}
 use Rattle.bounds.proofs.work_out.Goals as goal
 
-module _ {s : List ℕ} {r : Table} (read : AsRead s r) where
-  abbrev t : View
-  t = view_of s
+-- 12 passed
+to-walk : {t : View} {r : Table} → AsRead t r → Through (load_tests t) → ToWalk t r
+to-walk {t} read through = record { read = read; loads = loads-pass t through }
 
-  sound : Sound t
-  sound = read.sound
+pub file-requires-clause-none : goal.file-requires-clause-none
+file-requires-clause-none c = rw c.none-under.ensures
 
-  as_read : Told t r
-  as_read = told t r read.table
+pub walk-requires-clause-to_walk : goal.walk-requires-clause-to_walk
+walk-requires-clause-to_walk c =
+    let t = c.requires.as_read.0 in
+    let read = c.requires.as_read.1 in
+    (t, to-walk read (loads-through t c.none_over.result (c.none_over.ensures t read) _ c.in_ok-none_over.was))
 
-  limit : (w : ℕ) → w < t.wires → get_or r.rate w 0 * r.hyper ≡ t.rate w * t.hyper
-  limit w l = ap₂ (λ (x y : ℕ). x * y) (entry_at wires_most _ _ _ as_read.rate sound.wires_at_most w l) as_read.hyper
-
-  loads-told : (list counts loads : List ℕ) → FiledAll s list counts loads → Loads s loads r.rate r.hyper r.wires
-  unfolding load load_of
-  loads-told list counts loads filed =
-      let n = as_read.wires in
-      let most = sound.wires_at_most in
-      record {
-        number = n;
-        most = omega (arith, n, most);
-        load_told = λ w l. next-load (on t) (part t) t.channels list counts loads _ filed w (omega (arith, n, most)) refl;
-        limit_told = λ w l. limit w (omega (arith, n));
-        limit_fits = λ w l.
-            (let less : w < t.wires = omega (arith, n) in
-            omega (arith, limit w less, mul-le-mul (sound.rate_at_most w less) sound.hyper_at_most));
-      }
-
-pub file-requires-clause-filed_to : goal.file-requires-clause-filed_to
-file-requires-clause-filed_to c = let t = view_of c.args.table.now in filed-none (on t) (part t)
-
-pub file_firsts-requires-clause-ahead_to : goal.file_firsts-requires-clause-ahead_to
-file_firsts-requires-clause-ahead_to c = ahead_none (view_of c.args.table.now)
-
-pub none_over-loads-requires : goal.none_over-loads-requires
-none_over-loads-requires c = loads-told c.requires _ _ _ c.file.ensures
-
-pub returns-in-Refused : goal.returns-in-Refused
-returns-in-Refused c =
-    let t = view_of c.args.table.now in
-    let left =
-    left-refused t c.unworked.result c.in-Refused.field-0 c.in-Refused.field-1
-    (c.unworked.ensures.0 ∙ c.in-Refused.is, c.unworked.ensures.1)
-    (loads-stop t c.none_over-loads.result c.none_over-loads.ensures _ _ c.in-Refused.is) in
-    record { answered = left.0; figures_value = left.1 }
-
-pub walk-requires : goal.walk-requires
-walk-requires c =
-    let t = view_of c.args.table.now in
-    record {
-      read = c.requires;
-      stretch = filed-stretch (on t) (part t) t.channels _ _ _ c.file.ensures c.requires.sound.channels_at_most;
-      ahead_told = c.file_firsts.ensures;
-      loads = loads-pass t (loads-through t c.none_over-loads.result c.none_over-loads.ensures c.in_default.is);
-    }
+pub returns-in_err-none_over-clause-answered : goal.returns-in_err-none_over-clause-answered
+returns-in_err-none_over-clause-answered c = λ t read.
+    (let p = err_from_is_err_and c.from_residual.result c.from_residual.ensures.1 in
+    rw (p.1, p.2) (loads-stop t c.none_over.result (c.none_over.ensures t read) _ c.in_err-none_over.was))
 
 pub returns-clause-answered : goal.returns-clause-answered
-returns-clause-answered c =
-    rooms-after (view_of c.args.table.now) c.none_over-loads.result c.none_over-loads.ensures c.in_default.is
-    c.walk.result.answer c.walk.ensures.answered
+returns-clause-answered c = λ t read.
+    (let loads = c.none_over.ensures t read in
+    let through = loads-through t c.none_over.result loads _ c.in_ok-none_over.was in
+    rooms-after t c.none_over.result loads _ c.in_ok-none_over.was c.walk.result
+    (c.walk.ensures.answered t (to-walk read through)))
+
+pub returns-clause-figures_value : goal.returns-clause-figures_value
+returns-clause-figures_value c = λ t read.
+    (let through = loads-through t c.none_over.result (c.none_over.ensures t read) _ c.in_ok-none_over.was in
+    c.walk.ensures.figures_value t (to-walk read through))

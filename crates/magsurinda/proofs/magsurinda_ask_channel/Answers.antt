@@ -1,17 +1,14 @@
-use Rattle.std.proofs.Common.{arith}
+use Rattle.std.proofs.Common.{rules, [], ◌∷◌}
 use Rattle.rules.proofs.Small.{channel-small}
 use Rattle.magsurinda.specs.Packed.{only}
-use Rattle.magsurinda.proofs.Packing.{granted-bounds, refused-bounds, packed-granted, packed-refused}
+use Rattle.magsurinda.proofs.Packing.{refusal-fits, packed_is}
 use Rattle.magsurinda.proofs.magsurinda_ask_channel.Goals as goal
 
-pub pack-requires : goal.pack-requires
-pack-requires c = omega (arith, granted-bounds (channel-small c.args.sheet.now c.args.channel) c.in-Delay.ensures)
+pub unwrap_or_else-requires : goal.unwrap_or_else-requires
+unwrap_or_else-requires c =
+    refusal-fits (λ delay. delay ∷ []) c.ask_channel.result (channel-small c.args.sheet.now c.args.channel) c.ask_channel.ensures
 
-pub pack-requires-in-Refused : goal.pack-requires-in-Refused
-pack-requires-in-Refused c = omega (arith, refused-bounds (channel-small c.args.sheet.now c.args.channel) c.in-Refused.ensures)
-
-pub returns-in-Delay : goal.returns-in-Delay
-returns-in-Delay c = omega (arith, c.pack.ensures, packed-granted only c.in-Delay.ensures)
-
-pub returns-in-Refused : goal.returns-in-Refused
-returns-in-Refused c = omega (arith, c.pack-in-Refused.ensures, packed-refused only c.in-Refused.ensures)
+pub returns : goal.returns
+returns c =
+    packed_is (λ delay. delay ∷ []) only c.ask_channel.result c.ask_channel.ensures c.unwrap_or_else.result
+    (λ x is. search rules) (λ r is. search rules)

@@ -1,17 +1,20 @@
-use Rattle.std.proofs.Common.{arith}
+use Rattle.std.proofs.Common.{rules, [], ◌∷◌}
 use Rattle.rules.proofs.Small.{wire-small}
 use Rattle.magsurinda.specs.Packed.{figures}
-use Rattle.magsurinda.proofs.Packing.{granted-bounds, refused-bounds, packed-granted, packed-refused}
+use Rattle.magsurinda.proofs.Packing.{refusal-fits, grant-fits, packed_is}
 use Rattle.magsurinda.proofs.magsurinda_ask_wire.Goals as goal
 
-pub pack_figures-requires : goal.pack_figures-requires
-pack_figures-requires c = omega (arith, granted-bounds (wire-small c.args.sheet.now c.args.wire) c.in-Figures.ensures)
+pub map_or_else-requires-clause-default_callable : goal.map_or_else-requires-clause-default_callable
+map_or_else-requires-clause-default_callable c =
+    refusal-fits (λ wire. wire.backlog ∷ wire.delay ∷ []) c.ask_wire.result (wire-small c.args.sheet.now c.args.wire)
+    c.ask_wire.ensures
 
-pub pack-requires : goal.pack-requires
-pack-requires c = omega (arith, refused-bounds (wire-small c.args.sheet.now c.args.wire) c.in-Refused.ensures)
+pub map_or_else-requires-clause-f_callable : goal.map_or_else-requires-clause-f_callable
+map_or_else-requires-clause-f_callable c =
+    grant-fits (λ wire. wire.backlog ∷ wire.delay ∷ []) c.ask_wire.result (wire-small c.args.sheet.now c.args.wire)
+    c.ask_wire.ensures
 
-pub returns-in-Figures : goal.returns-in-Figures
-returns-in-Figures c = omega (arith, c.pack_figures.ensures, packed-granted figures c.in-Figures.ensures)
-
-pub returns-in-Refused : goal.returns-in-Refused
-returns-in-Refused c = omega (arith, c.pack.ensures, packed-refused figures c.in-Refused.ensures)
+pub returns : goal.returns
+returns c =
+    packed_is (λ wire. wire.backlog ∷ wire.delay ∷ []) figures c.ask_wire.result c.ask_wire.ensures c.map_or_else.result
+    (λ x is. search rules) (λ r is. search rules)

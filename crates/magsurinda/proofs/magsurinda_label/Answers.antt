@@ -1,23 +1,18 @@
-use Rattle.std.proofs.Common.{arith}
+use Rattle.std.proofs.Common.{rules, [], ◌∷◌}
 use Rattle.rules.proofs.Small.{label_small}
 use Rattle.magsurinda.specs.Packed.{stretch}
-use Rattle.magsurinda.proofs.Packing.{granted-bounds, refused-bounds, packed-granted, packed-refused}
+use Rattle.magsurinda.proofs.Packing.{refusal-fits, grant-fits, packed_is}
 use Rattle.magsurinda.proofs.magsurinda_label.Goals as goal
 
-pub overflow_mul-start : goal.overflow_mul-start
-overflow_mul-start c = omega (arith, granted-bounds (label_small c.args.roll.now c.args.number) c.in-Stretch.ensures)
+pub map_or_else-requires-clause-default_callable : goal.map_or_else-requires-clause-default_callable
+map_or_else-requires-clause-default_callable c =
+    refusal-fits (λ label. label.start ∷ label.length ∷ []) c.ask.result (label_small c.args.roll.now c.args.number) c.ask.ensures
 
-pub overflow_add-start : goal.overflow_add-start
-overflow_add-start c = omega (arith, granted-bounds (label_small c.args.roll.now c.args.number) c.in-Stretch.ensures)
+pub map_or_else-requires-clause-f_callable : goal.map_or_else-requires-clause-f_callable
+map_or_else-requires-clause-f_callable c =
+    grant-fits (λ label. label.start ∷ label.length ∷ []) c.ask.result (label_small c.args.roll.now c.args.number) c.ask.ensures
 
-pub pack-requires : goal.pack-requires
-pack-requires c = omega (arith, granted-bounds (label_small c.args.roll.now c.args.number) c.in-Stretch.ensures)
-
-pub pack-requires-in-Refused : goal.pack-requires-in-Refused
-pack-requires-in-Refused c = omega (arith, refused-bounds (label_small c.args.roll.now c.args.number) c.in-Refused.ensures)
-
-pub returns-in-Stretch : goal.returns-in-Stretch
-returns-in-Stretch c = omega (arith, c.pack.ensures, packed-granted stretch c.in-Stretch.ensures)
-
-pub returns-in-Refused : goal.returns-in-Refused
-returns-in-Refused c = omega (arith, c.pack-in-Refused.ensures, packed-refused stretch c.in-Refused.ensures)
+pub returns : goal.returns
+returns c =
+    packed_is (λ label. label.start ∷ label.length ∷ []) stretch c.ask.result c.ask.ensures c.map_or_else.result
+    (λ x is. search rules) (λ r is. search rules)

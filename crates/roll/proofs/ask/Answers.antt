@@ -1,73 +1,54 @@
 -- Each return by the tests that led there.
-use Rattle.std.proofs.Common.{ℕ, List, Bool, [], ◌∷◌, ◌≡◌, ◌∙◌, ◌+◌, ◌<◌, ◌≤◌, length, get_or, true, refl, sym, ap, ap₂, arith}
-use borrow.Author.Tests.{lt-ltb, le-ltb}
-use Rattle.rules.specs.Words.{only}
-use Rattle.rules.specs.Replies.{granted, test}
-use Rattle.rules.specs.Roll.{labels, length_at, sound_at, sound_labels, sound_roll, ask_label}
-use Rattle.rules.proofs.Sheet.Fitting.{every_true, true-every}
-use Rattle.rules.proofs.Roll.{fits, roll-told}
+use Rattle.std.proofs.Common.{ℕ, ◌≡◌, ◌∙◌, Some, None, refl, sym, ap, arith}
+use Rattle.std.specs.Prelude.{Option, Result, Ok, Err, IsErrAnd}
+use Rattle.std.specs.Option.{ok_or}
+use Rattle.rules.specs.declared.Refusal.{Refusal}
+use Rattle.rules.specs.declared.Refusal.TheVariants as refusal
+use Rattle.rules.specs.declared.Stretch.{Stretch}
+use Rattle.rules.specs.Replies.{refusal_reply, label_reply}
+use Rattle.roll.proofs.Ends.{not_sound, not_there, before, short, asked}
 use Rattle.roll.proofs.ask.Goals as goal
 
--- of a number below a sound roll's count
-module _ (roll : List ℕ) (is : sound_roll roll ≡ true) (k : ℕ) (less : k < labels roll) where
-  before : sound_labels roll k ≡ true
-  before =
-      every_true (λ j. sound_at roll (length_at roll j)) k
-      (λ j h. true-every (λ i. sound_at roll (length_at roll i)) (labels roll) (roll-told roll is).2 j (omega arith))
+-- what a `?` hands on
+handed_on : (a : Result Stretch Refusal) (r : Refusal) → IsErrAnd a (λ e. e ≡ r) → label_reply a ≡ refusal_reply r
+handed_on (Ok x) r h = absurd h
+handed_on (Err e) r h = ap refusal_reply h
 
-  -- where its length byte was found
-  module _ (at : ℕ) (found : at ≡ only (sound_labels roll k) (length_at roll k)) where
-    there : at ≡ length_at roll k
-    there = found ∙ ap (λ (b : Bool). only b (length_at roll k)) before
+refusal_of : (o : Option ℕ) (r s : Refusal) → Err s ≡ ok_or o r → s ≡ r
+refusal_of None r s e = cc
+refusal_of (Some x) r s e = cc
 
-    short : at + 1 ≤ length roll
-    short = omega (arith, there, fits roll is k less)
+pub returns-in_err-count : goal.returns-in_err-count
+returns-in_err-count c =
+    let e = c.in_err-count.ensures in
+    let r = refusal_of c.count_of.result refusal.Roll c.in_err-count.field-0.0 e.value in
+    handed_on c.from_residual.result refusal.Roll (rw r at c.from_residual.ensures.1)
+    ∙ sym (not_sound c.args.roll.now c.args.number (sym e.ok_part ∙ c.count_of.ensures))
 
-pub returns-then-not-sound : goal.returns-then-not-sound
-unfolding ask_label test
-returns-then-not-sound c = rw (sym c.sound.ensures ∙ c.if-not-sound.true) refl
+pub returns-then-count-number : goal.returns-then-count-number
+returns-then-count-number c =
+    let count = sym c.in_ok-count.ensures.ok_part ∙ c.count_of.ensures in
+    sym (not_there c.args.roll.now c.in_ok-count.count c.args.number count (omega arith))
 
-pub bounds-roll-0 : goal.bounds-roll-0
-bounds-roll-0 c =
-    let roll = c.args.roll.now in
-    let is = sym c.sound.ensures ∙ c.if-not-sound.false in
-    omega (arith, fits roll is 0 (roll-told roll is).0)
-
-pub returns-then-wide-number : goal.returns-then-wide-number
-unfolding ask_label test
-returns-then-wide-number c =
-    let a = c.args in
-    rw (
-      sym c.sound.ensures ∙ c.if-not-sound.false,
-      le-ltb a.number (labels a.roll.now) (omega (arith, c.wide.ensures)),
-    )
-    refl
-
-pub end_of-at-requires : goal.end_of-at-requires
-end_of-at-requires c =
-    let roll = c.args.roll.now in
-    omega (arith, c.wide.ensures, (roll-told roll (sym c.sound.ensures ∙ c.if-not-sound.false)).1)
+pub unwrap-at-requires : goal.unwrap-at-requires
+unwrap-at-requires c =
+    let count = sym c.in_ok-count.ensures.ok_part ∙ c.count_of.ensures in
+    rw (c.end_of.ensures, before c.args.roll.now c.in_ok-count.count c.args.number count (omega arith)) refl
 
 pub overflow_add-result : goal.overflow_add-result
 overflow_add-result c =
-    let a = c.args in
-    let is = sym c.sound.ensures ∙ c.if-not-sound.false in
-    omega (arith, short a.roll.now is a.number (omega (arith, c.wide.ensures)) c.end_of-at.result c.end_of-at.ensures)
+    let count = sym c.in_ok-count.ensures.ok_part ∙ c.count_of.ensures in
+    let at = sym c.unwrap-at.ensures ∙ c.end_of.ensures in
+    omega (arith, short c.args.roll.now c.in_ok-count.count c.args.number count (omega arith) c.unwrap-at.result at)
 
 pub bounds-roll-at : goal.bounds-roll-at
 bounds-roll-at c =
-    let a = c.args in
-    let is = sym c.sound.ensures ∙ c.if-not-sound.false in
-    omega (arith, short a.roll.now is a.number (omega (arith, c.wide.ensures)) c.end_of-at.result c.end_of-at.ensures)
+    let count = sym c.in_ok-count.ensures.ok_part ∙ c.count_of.ensures in
+    let at = sym c.unwrap-at.ensures ∙ c.end_of.ensures in
+    omega (arith, short c.args.roll.now c.in_ok-count.count c.args.number count (omega arith) c.unwrap-at.result at)
 
 pub returns : goal.returns
-unfolding ask_label test
 returns c =
-    let a = c.args in
-    let roll = a.roll.now in
-    let is = sym c.sound.ensures ∙ c.if-not-sound.false in
-    let less : a.number < labels roll = omega (arith, c.wide.ensures) in
-    let at : c.end_of-at.result ≡ length_at roll a.number = there roll is a.number less c.end_of-at.result c.end_of-at.ensures in
-    rw (is, lt-ltb a.number (labels roll) less)
-    (ap₂ (λ (start length : ℕ). granted (start ∷ length ∷ [])) (ap (λ (i : ℕ). i + 1) at)
-    (c.wide-2.ensures ∙ ap (λ (i : ℕ). get_or roll i 0) at))
+    let count = sym c.in_ok-count.ensures.ok_part ∙ c.count_of.ensures in
+    let at = sym c.unwrap-at.ensures ∙ c.end_of.ensures in
+    rw c.from.ensures (asked c.args.roll.now c.in_ok-count.count c.args.number count (omega arith) c.unwrap-at.result at)

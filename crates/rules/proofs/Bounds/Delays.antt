@@ -1,22 +1,21 @@
 -- Laws of the figures: the delays that a wire's figures go by, and what a delay is enough for.
-use mathlib.Core.Path.{◌≡◌, refl, ap, sym, ◌∙◌}
+use mathlib.Core.Path.{◌≡◌, refl, ap, ◌∙◌}
 use mathlib.Core.Bool.{true, false}
-use mathlib.Core.Logic.{inl, inr}
 use mathlib.Core.List.{[], ◌∷◌, ◌++◌}
 use Prim.Native.Nat.{ℕ, zero, suc, ◌+◌, ◌-◌, ◌*◌, ◌/◌, ◌≤◌, ◌<◌}
 use native.Mathlib.Nat.{add-mul-div_left, div-eq_of_lt, mul-le-mul_right, le-div_iff_mul-le, lt-div-mul-add}
-use native.Mathlib.Decide.{ℕ_discrete}
 use native.Mathlib.Omega.{arith}
-use lib.ListN.{length, length-append, get_or-append}
-use lib.Seq.{get_or-append-add}
+use lib.ListN.{length, length-append}
+use Rattle.std.proofs.lemmas.Nat.{le-div}
+use Rattle.std.proofs.lemmas.Grind.{common_steps}
 use Rattle.rules.specs.Words.{up}
 use Rattle.rules.specs.Price.{small_frame}
 use Rattle.rules.specs.Table.{View}
-use Rattle.rules.specs.Office.{first, K}
+use Rattle.rules.specs.Office.{K}
 use Rattle.rules.specs.Bounds.{cost, on, carries, along, jitter, share_of, burst}
 use Rattle.rules.specs.Bounds.{backlog_after, delay_after, delays_below, known, backlog, delay}
 use Rattle.rules.specs.Sound.{Sound, Climbs}
-use Rattle.rules.proofs.Sums.{bool_cases, sum-has, sum-none, sum_same, none-some}
+use Rattle.rules.proofs.Sums.{sum-has, sum-none, sum_same, none-some}
 use Rattle.rules.proofs.Price.{price-least}
 use Rattle.rules.proofs.Bounds.Routes.{along-same}
 
@@ -33,14 +32,7 @@ next-delay t w = refl
 pub known-delay : (t : View) (w v : ℕ) → v < w → known t w v ≡ delay t v
 known-delay t zero v l = absurd (omega arith)
 known-delay t (suc w) v l =
-    elim (ℕ_discrete v w) [
-      | yes e ↦
-          (let at : v ≡ length (delays_below t w) + 0 = omega (arith, delays-length t w) in
-          rw (next-delay t w, at) (get_or-append-add (delays_below t w) (delay t w ∷ []) 0 0 ∙ ap (delay t) (sym e ∙ at)))
-      | no d ↦
-          (let below : v < length (delays_below t w) = omega (arith, delays-length t w) in
-          rw (next-delay t w) (get_or-append (delays_below t w) (delay t w ∷ []) 0 v below ∙ known-delay t w v (omega arith)))
-    ]
+    grind (arith, common_steps, next-delay t w, delays-length t w, known-delay t w v)
 
 -- so the jitter is the sum of the delays before, each less 1
 pub jitter-known :
@@ -83,11 +75,7 @@ delay-held t w l some =
 pub delay-carries : (t : View) (w : ℕ) → 1 ≤ t.rate w → carries t w ≡ true → 1 ≤ delay t w
 unfolding K
 delay-carries t w l some =
-    let held : 1 ≤ K t w =
-    elim (bool_cases (first t w)) [
-      | inl yes₁ ↦ rw yes₁ ((le-div_iff_mul-le l).1 (omega arith))
-      | inr no₁ ↦ rw no₁ ((le-div_iff_mul-le l).1 (omega arith))
-    ] in
+    let held : 1 ≤ K t w = le-div 1 _ (t.rate w) l (grind (arith, common_steps)) in
     omega (arith, delay-held t w l some)
 
 -- A wire that no route uses has backlog 0 and delay 0.

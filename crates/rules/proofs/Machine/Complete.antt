@@ -3,19 +3,18 @@
 use mathlib.Core.Path.{◌≡◌, refl, sym, ap, ◌∙◌}
 use mathlib.Core.Logic.{inl, inr}
 use mathlib.Core.List.{List, [], ◌∷◌}
-use Prim.Native.Nat.{ℕ, zero, suc, ◌-◌, ◌≤◌, ◌<◌}
+use Prim.Native.Nat.{ℕ, zero, suc, ◌-◌, ◌<◌}
 use native.Mathlib.Omega.{arith}
-use borrow.Author.Tests.{le-leb}
-use Rattle.rules.specs.Words.{cut, has}
+use Rattle.std.proofs.lemmas.Bool.Decides.{nat_tests}
+use Rattle.std.proofs.lemmas.Bool.{cases_Bool}
+use Rattle.rules.specs.Words.{has}
 use Rattle.rules.specs.Table.{View, source}
-use Rattle.rules.specs.Office.{K}
 use Rattle.rules.specs.Machine.{Frame, Waiting, Releases, Gone, of_channel, due_from, due, AnyOrder, joined, Holding}
 use Rattle.rules.specs.Machine.{Run, Allowed, Order, Choice, queue_in, held_in, arrivals, holding, played}
 use Rattle.rules.specs.Sound.{Sound}
 use Rattle.rules.proofs.Bounds.Routes.{nowhere-off, climbs-below, follows}
 use Rattle.rules.proofs.Machine.Played.{gathered-same, reaching-same, gone_at, arrived_at, held_at}
 use Rattle.rules.proofs.Machine.Played.{queue-next, gone-now, held_now, empty-first}
-use Rattle.rules.proofs.Sums.{bool_cases}
 
 -- what is held follows from the three conditions
 holding-is :
@@ -25,10 +24,7 @@ holding-is :
 unfolding holding
 holding-is [] [] chosen left held idle start on = sym (idle refl refl)
 holding-is [] (f ∷ fs) chosen left held idle start on = start refl
-holding-is (x ∷ queue) arrived chosen left held idle start on = on (λ e. let z : ◌≡◌ {A = ℕ} 0 1 = cc in omega arith)
-
-cut_small : (x most : ℕ) → x ≤ most → cut x most ≡ x
-cut_small x most l = rw (le-leb x most l) refl
+holding-is (x ∷ queue) arrived chosen left held idle start on = on (λ e. cc)
 
 -- What is due reads only what is gone from the wires of the table, where every route stays on them.
 module _
@@ -42,7 +38,7 @@ module _
     from-below k lk =
         let xs = t.route k in
         let c = sound.climbs k lk in
-        elim (bool_cases (has w xs)) [
+        elim (cases_Bool (has w xs)) [
           | inr off ↦ rw (nowhere-off w xs off) refl
           | inl there ↦
               elim (follows t.wires 0 w xs c there) [
@@ -84,7 +80,7 @@ module _ {t : View} {released : Releases} {held : Holding} (run : Run t released
         held_now t released order_of choice_of w slot l
         ∙ rw (came_as w slot, same)
         (holding-is (run.queue w slot) (run.arrived w slot) _ _ (held w slot)
-        (allowed.from_then_on w slot l) (λ e. cut_small (held w slot) (K t w) (allowed.at_most w slot l)) on)
+        (allowed.from_then_on w slot l) (λ e. grind (arith, nat_tests, allowed.at_most w slot l)) on)
 
     alike : (slot : ℕ) → Alike slot
     alike zero =
@@ -97,9 +93,7 @@ module _ {t : View} {released : Releases} {held : Holding} (run : Run t released
         ∙ rw (came_as w slot, before.queue, before.held_too) (sym (run.keeps w slot l)) in
         record {
           queue = same;
-          held_too =
-              held_from (suc slot) same
-              (λ more. ap (λ (h : ℕ). h - 1) before.held_too ∙ sym (allowed.not_again w slot l more));
+          held_too = held_from (suc slot) same (λ more. rw before.held_too (sym (allowed.not_again w slot l more)));
         }
 
     pub every_run_played :

@@ -5,10 +5,11 @@ use mathlib.Core.Bool.{false}
 use mathlib.Core.Logic.{inl, inr}
 use mathlib.Core.List.{[]}
 use Prim.Native.Nat.{ℕ, zero, suc, ◌+◌, ◌-◌, ◌*◌, ◌/◌, ◌≤◌, ◌<◌}
-use native.Mathlib.Nat.{mul-le-mul_left, lt-div-mul-add, eq-zero-or-pos}
-use native.Mathlib.Decide.{dec_le, ℕ_discrete}
+use native.Mathlib.Nat.{mul-le-mul_left, lt-div-mul-add}
 use native.Mathlib.Omega.{arith}
-use borrow.Author.Tests.{eq-eqb, ne_eqb}
+use Rattle.std.proofs.lemmas.Grind.{common_steps}
+use Rattle.std.proofs.lemmas.Bool.Decides.{nat_tests}
+use Rattle.std.proofs.lemmas.Bool.{cases_Bool}
 use Rattle.rules.specs.Words.{sum, total, only, gathered}
 use Rattle.rules.specs.Price.{price, last_bytes}
 use Rattle.rules.specs.Table.{View, last_wire}
@@ -19,7 +20,7 @@ use Rattle.rules.specs.Machine.{Frame, Releases, Keeps, Holding, Run, Allowed, A
 use Rattle.rules.specs.Machine.{sending, bytes, unsent, Gone, reaching, delivered, of_channel}
 use Rattle.rules.specs.Promise.{Among}
 use Rattle.rules.specs.Sound.{Sound}
-use Rattle.rules.proofs.Sums.{bool_cases, sum-le, sum_same, sum-add, sum-scale, sum-none, sum-alone}
+use Rattle.rules.proofs.Sums.{sum-le, sum_same, sum-add, sum-scale, sum-none, sum-alone}
 use Rattle.rules.proofs.Sums.{sum-grows, sum-cut, total-gathered, total-empty, some-none}
 use Rattle.rules.proofs.Machine.Orders.{same, any_order_complete, among_complete}
 use Rattle.rules.proofs.Price.{frames-price, price-grows}
@@ -55,16 +56,7 @@ module _ (t : View) (sound : Sound t) (released : Releases) (keeps : Keeps t rel
 
   some-released : (r : ℕ) → 0 < total size_of (message t released k r) → 0 < released k r
   some-released r h =
-      elim (eq-zero-or-pos (released k r)) [
-        | inl e ↦
-            absurd (omega (
-              arith,
-              message-size t released k r,
-              ap (price (t.framing k)) e,
-              price-none (t.framing k) (sound.framing_at_most k lk),
-            ))
-        | inr some ↦ some
-      ]
+      grind (arith, message-size t released k r, price-none (t.framing k) (sound.framing_at_most k lk))
 
   -- A channel's releases in slot a and n further slots: C + C × n / P, times H.
   releases-most :
@@ -86,11 +78,7 @@ module _ (t : View) (sound : Sound t) (released : Releases) (keeps : Keeps t rel
 -- Rounding down at the end loses nothing: bytes are whole.
 divided : (h x y z : ℕ) → 1 ≤ h → h * x ≤ h * y + z → x ≤ y + z / h
 divided h x y z l le =
-    elim (dec_le x (y + z / h)) [
-      | yes fine ↦ fine
-      | no more ↦
-          absurd (omega (arith, lt-div-mul-add {a = z} {b = h} l, mul-le-mul_left {m = suc (y + z / h)} {n = x} h (omega arith)))
-    ]
+    grind (arith, lt-div-mul-add {a = z} {b = h} l, mul-le-mul_left {m = suc (y + z / h)} {n = x} h)
 
 -- What has reached the destination is what has left the last wire.
 total-delivered :
@@ -128,14 +116,7 @@ lag_of t v = delay t v - 1
 -- A slot held is one less to come; a slot not held sends the rate.
 held-less : (rate now next : ℕ) → next ≡ now - 1 → rate * next + rate ≤ rate * now + sending rate now + 0
 held-less rate now next e =
-    elim (ℕ_discrete now 0) [
-      | yes free ↦
-          (let last : next ≡ 0 = omega arith in
-          rw (eq-eqb now 0 free) (omega (arith, ap (λ (x : ℕ). rate * x) last)))
-      | no holds ↦
-          (let one_less : now ≡ next + 1 = omega arith in
-          rw (ne_eqb now 0 holds) (omega (arith, ap (λ (x : ℕ). rate * x) one_less)))
-    ]
+    grind (arith, nat_tests)
 
 module _
     (t : View) (sound : Sound t) (fits : (w : ℕ) → w < t.wires → load t w ≤ t.rate w * t.hyper)
@@ -190,7 +171,7 @@ module _
             ≤ t.hyper * before (into t released run.gone w k) size_of a + (share_of t (known t w) w k + d * load_of t w k)
         unfolding share_of load_of
         share-most k lk a d =
-            elim (bool_cases (on t w k)) [
+            elim (cases_Bool (on t w k)) [
               | inl there ↦
                   (let own-came = came_own t released run.arrived run.gone run.any_order w lw k lk size_of in
                   let flow =
@@ -207,9 +188,7 @@ module _
                     mul-le-mul_left t.hyper seen.2,
                     releases-most t sound released keeps k lk start (d + longer t (lag_of t) w k),
                   )))
-              | inr off ↦
-                  (let none = none-into t released run.gone w k (nowhere-off w (t.route k) off) size_of (suc (a + d)) in
-                  omega (arith, ap (λ (x : ℕ). t.hyper * x) none))
+              | inr off ↦ grind (arith, none-into t released run.gone w k (nowhere-off w (t.route k) off) size_of (suc (a + d)))
             ]
 
         -- All shares together: what is taken of the burst.
@@ -239,13 +218,13 @@ module _
         -- nothing on another, to which nothing comes.
         blocked-most : (a : ℕ) → blocked w a ≤ only (carries t w) (t.rate w * K t w)
         blocked-most a =
-            elim (bool_cases (carries t w)) [
-              | inl some ↦ rw some (omega (arith, mul-le-mul_left (t.rate w) (allowed.at_most w a lw)))
-              | inr off ↦
-                  (let none = idle w lw off a in
-                  let free : held w a ≡ 0 = allowed.from_then_on w a lw none.0 none.1 in
-                  omega (arith, ap (λ (x : ℕ). t.rate w * x) free))
-            ]
+            grind (
+              arith,
+              common_steps,
+              mul-le-mul_left (t.rate w) (allowed.at_most w a lw),
+              idle w lw,
+              allowed.from_then_on w a lw,
+            )
 
         burst-rule : Bursts (t.rate w) (blocked w) (λ s. 0) (run.queue w) (run.arrived w) (backlog t w)
         unfolding backlog backlog_after
@@ -281,13 +260,13 @@ module _
     left-total : (w slot : ℕ) → w < t.wires → (g : Frame → ℕ)
         → before (run.arrived w) g (suc slot) ≤ before (run.gone w) g (slot + delay t w)
     left-total w slot l g =
-        elim (bool_cases (carries t w)) [
-          | inl some ↦
-              (let e : suc (slot + lag_of t w) ≡ slot + delay t w
-              = omega (arith, delay-carries t w (sound.rate_at_least w l) some) in
-              omega (arith, (wired w l).0.prompt g slot, ap (before (run.gone w) g) e))
-          | inr off ↦ omega (arith, none_came w l off g (suc slot))
-        ]
+        grind (
+          arith,
+          cases_Bool (carries t w),
+          (wired w l).0.prompt g slot,
+          delay-carries t w (sound.rate_at_least w l),
+          none_came w l,
+        )
 
     pub left-within :
         (w slot n : ℕ) → w < t.wires → slot + delay t w ≤ n →

@@ -1,20 +1,20 @@
 -- A channel's frames along its route: of the wires it knows only what they pass on, and when.
 use mathlib.Core.Path.{◌≡◌, refl, ap, sym, ◌∙◌}
-use mathlib.Core.Bool.{Bool, true, false}
+use mathlib.Core.Bool.{true}
 use mathlib.Core.Logic.{inl, inr}
 use mathlib.Core.List.{List, [], ◌∷◌}
 use Prim.Native.Nat.{ℕ, zero, suc, ◌+◌, ◌-◌, ◌≤◌, ◌<◌}
-use native.Mathlib.Decide.{dec_le, ℕ_discrete}
 use native.Mathlib.Omega.{arith}
 use lib.Dec.{eqb}
-use borrow.Author.Tests.{eq-eqb, ne_eqb, le-leb, lt-leb}
+use borrow.Author.Tests.{eq-eqb, ne_eqb}
+use Rattle.std.proofs.lemmas.Bool.Decides.{nat_tests}
 use Rattle.rules.specs.Words.{sum, total, only, has}
 use Rattle.rules.specs.Price.{frames}
 use Rattle.rules.specs.Table.{View, Source, nowhere, release, wire, source}
 use Rattle.rules.specs.Bounds.{along}
 use Rattle.rules.specs.Machine.{Frame, Releases, message, of_channel, born_in, Gone, reaching, due_from, due, AnyOrder}
 use Rattle.rules.specs.Sound.{Climbs}
-use Rattle.rules.proofs.Sums.{ascend, sum_same, sum-swap, sum-alone, sum-none, sum-grows}
+use Rattle.rules.proofs.Sums.{sum-next, ascend, sum_same, sum-swap, sum-alone, sum-none, sum-grows}
 use Rattle.rules.proofs.Sums.{total-same, total-none, total-map, total-gathered}
 use Rattle.rules.proofs.Machine.Orders.{any_order-total}
 use Rattle.rules.proofs.Bounds.Routes.{Follows, Begins, follows, climbs-below}
@@ -31,28 +31,12 @@ young r g f = only (eqb f.born r) (g f)
 pub total-channel : (g : Frame → ℕ) (k : ℕ) (fs : List Frame) → total g (of_channel k fs) ≡ total (own k g) fs
 unfolding total of_channel
 total-channel g k [] = refl
-total-channel g k (f ∷ fs) =
-    elim (ℕ_discrete f.channel k) [
-      | yes e ↦ rw (eq-eqb f.channel k e) (omega (arith, total-channel g k fs))
-      | no d ↦ rw (ne_eqb f.channel k d) (omega (arith, total-channel g k fs))
-    ]
+total-channel g k (f ∷ fs) = grind (arith, nat_tests, total-channel g k fs)
 
 pub total-born : (g : Frame → ℕ) (r : ℕ) (fs : List Frame) → total g (born_in r fs) ≡ total (young r g) fs
 unfolding total born_in
 total-born g r [] = refl
-total-born g r (f ∷ fs) =
-    elim (ℕ_discrete f.born r) [
-      | yes e ↦ rw (eq-eqb f.born r e) (omega (arith, total-born g r fs))
-      | no d ↦ rw (ne_eqb f.born r d) (omega (arith, total-born g r fs))
-    ]
-
-only-twice : (b : Bool) (n : ℕ) → only b (only b n) ≡ only b n
-only-twice true n = refl
-only-twice false n = refl
-
-only_zero : (b : Bool) → only b 0 ≡ 0
-only_zero true = refl
-only_zero false = refl
+total-born g r (f ∷ fs) = grind (arith, nat_tests, total-born g r fs)
 
 -- a weight over a message is one over the sizes of its frames
 pub total-message :
@@ -85,7 +69,7 @@ due-own nowhere t released gone slot j g = refl
 due-own release t released gone slot j g = message-own t released j slot g
 due-own (wire v) t released gone slot j g =
     let fs = reaching t gone v slot in
-    total-channel (own j g) j fs ∙ total-same _ _ fs (λ f. only-twice (eqb f.channel j) (g f)) ∙ sym (total-channel g j fs)
+    total-channel (own j g) j fs ∙ total-same _ _ fs (λ f. grind (arith, nat_tests)) ∙ sym (total-channel g j fs)
 
 due-other :
     (src : Source) (t : View) (released : Releases) (gone : Gone) (slot j k : ℕ) (g : Frame → ℕ) → ¬ (j ≡ k) →
@@ -95,11 +79,7 @@ due-other src t released gone slot j k g d =
     ∙ total-none (own j (own k g)) (due_from src t released gone slot j) (λ f. apart f)
   where
     apart : (f : Frame) → own j (own k g) f ≡ 0
-    apart f =
-        elim (ℕ_discrete f.channel k) [
-          | yes e ↦ rw (ne_eqb f.channel j (omega arith)) refl
-          | no n ↦ rw (ne_eqb f.channel k n) (only_zero (eqb f.channel j))
-        ]
+    apart f = grind (arith, nat_tests)
 
 -- what channel k brings to wire w, slot by slot
 abbrev pub into : View → Releases → Gone → ℕ → ℕ → ℕ → List Frame
@@ -109,28 +89,17 @@ pub none-into :
     (t : View) (released : Releases) (gone : Gone) (w k : ℕ) → source (t.route k) w ≡ nowhere → (g : Frame → ℕ) (n : ℕ) →
     before (into t released gone w k) g n ≡ 0
 unfolding due_from total
-none-into t released gone w k e g n =
-    ap (λ (src : Source). before (λ slot. due_from src t released gone slot k) g n) e ∙ sum-none n
+none-into t released gone w k e g n = rw e (sum-none n)
 
 -- 1 + propagation slots later
 pub reached :
     (t : View) (gone : Gone) (v : ℕ) (g : Frame → ℕ) (n : ℕ) →
     before (reaching t gone v) g n ≡ before (gone v) g (n - (1 + t.prop v))
 unfolding sum total reaching
-reached t gone v g zero =
-    let e : 0 ≡ 0 - (1 + t.prop v) = omega arith in
-    ap (before (gone v) g) e
+reached t gone v g zero = grind arith
 reached t gone v g (suc n) =
-    elim (dec_le (1 + t.prop v) n) [
-      | yes l ↦
-          rw (le-leb (1 + t.prop v) n l)
-          (let e : suc n - (1 + t.prop v) ≡ suc (n - (1 + t.prop v)) = omega arith in
-          omega (arith, reached t gone v g n, ap (before (gone v) g) e))
-      | no m ↦
-          rw (lt-leb (1 + t.prop v) n (omega arith))
-          (let e : suc n - (1 + t.prop v) ≡ n - (1 + t.prop v) = omega arith in
-          omega (arith, reached t gone v g n, ap (before (gone v) g) e))
-    ]
+    let ago = n - (1 + t.prop v) in
+    grind (arith, nat_tests, reached t gone v g n, sum-next (λ (s : ℕ). total g (gone v s)) (suc n - (1 + t.prop v)) ago)
 
 -- The shortest time from release to a wire: 1 + propagation for each wire passed. What the wires passed may add to it.
 abbrev pub shortest : View → ℕ → ℕ → ℕ
@@ -180,7 +149,7 @@ module _
         before (arrived w) (own k g) n ≡ before (message t released k) g n
     unfolding due_from
     came_released w l k lk e g n =
-        came_own w l k lk g n ∙ ap (λ (src : Source). before (λ slot. due_from src t released gone slot k) g n) e
+        came_own w l k lk g n ∙ rw e
 
     pub came_passed :
         (w : ℕ) → w < t.wires → (k : ℕ) → k < t.channels → (v : ℕ) → source (t.route k) w ≡ wire v → (g : Frame → ℕ) (n : ℕ) →
@@ -188,7 +157,7 @@ module _
     unfolding due_from
     came_passed w l k lk v e g n =
         came_own w l k lk g n
-        ∙ ap (λ (src : Source). before (λ slot. due_from src t released gone slot k) g n) e
+        ∙ rw e refl
         ∙ sum_same _ _ n (λ slot below. total-channel g k (reaching t gone v slot))
         ∙ reached t gone v (own k g) n
 
@@ -198,12 +167,8 @@ module _
           let none : shortest t w k ≡ 0 = b.adds (λ v. 1 + t.prop v) in
           let calm : longer t lag w k ≡ 0 = b.adds lag in
           record {
-            sooner = λ g n.
-                (let e : n - shortest t w k ≡ n = omega arith in
-                omega (arith, came_released w l k lk b.from g n, ap (before (message t released k) g) e));
-            later = λ g n.
-                (let e : n + (shortest t w k + longer t lag w k) ≡ n = omega arith in
-                omega (arith, came_released w l k lk b.from g n, ap (before (arrived w) (own k g)) e));
+            sooner = λ g n. grind (arith, came_released w l k lk b.from g n);
+            later = λ g n. grind (arith, came_released w l k lk b.from g n);
           }
 
       follows_flows :
@@ -215,14 +180,12 @@ module _
           let far : longer t lag w k ≡ longer t lag v k + lag v = f.adds lag in
           record {
             sooner = λ g n.
-                (let e : n - (1 + t.prop v) - shortest t v k ≡ n - shortest t w k = omega arith in
-                omega (
+                grind (
                   arith,
                   came_passed w l k lk v f.from g n,
                   passes.fair (own k g) (n - (1 + t.prop v)),
                   flow.sooner g (n - (1 + t.prop v)),
-                  ap (before (message t released k) g) e,
-                ));
+                );
             later = λ g n.
                 elim n as (λ n. before (message t released k) g n
                 ≤ before (arrived w) (own k g) (n + (shortest t w k + longer t lag w k))) [
@@ -275,14 +238,7 @@ unfolding sum
 window t released arrived lag w k flow g a d =
     let start = a - (shortest t w k + longer t lag w k) in (
       start,
-      elim (dec_le (shortest t w k + longer t lag w k) a) [
-        | yes l ↦
-            (let e : start + (shortest t w k + longer t lag w k) ≡ a = omega arith in
-            omega (arith, flow.later g start, ap (before (arrived w) (own k g)) e))
-        | no n ↦
-            (let e : start ≡ 0 = omega arith in
-            omega (arith, ap (before (message t released k) g) e))
-      ],
+      grind (arith, flow.later g start),
       omega (
         arith,
         flow.sooner g (suc (a + d)),

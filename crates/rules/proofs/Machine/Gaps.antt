@@ -1,7 +1,7 @@
 -- What comes at least a period apart, at most `most` each time, brings little in a window.
 use mathlib.Core.Path.{◌≡◌, ap}
 use Prim.Native.Nat.{ℕ, zero, suc, ◌+◌, ◌*◌, ◌≤◌, ◌<◌}
-use native.Mathlib.Nat.{add-zero, add-suc, mul-le-mul_left}
+use native.Mathlib.Nat.{add-suc, mul-le-mul_left}
 use native.Mathlib.Decide.{dec_le}
 use native.Mathlib.Omega.{arith}
 use Rattle.rules.specs.Words.{sum}
@@ -13,7 +13,7 @@ module _
     -- before one that comes m slots after slot a
     ahead : (a n m : ℕ) → n ≤ m → 0 < f (a + m) → period * sum f (a + n) ≤ period * sum f a + most * m
     unfolding sum
-    ahead a zero m l h = omega (arith, ap (λ (x : ℕ). period * sum f x) (add-zero a))
+    ahead a zero m l h = grind arith
     ahead a (suc n) m l h =
         let next : period * sum f (a + suc n) ≡ period * (sum f (a + n) + f (a + n))
         = ap (λ (x : ℕ). period * sum f x) (add-suc a n) in
@@ -34,7 +34,7 @@ module _
     pub window-most : (a n : ℕ) → period * sum f (suc (a + n)) ≤ period * sum f a + most * (period + n)
     unfolding sum
     window-most a zero =
-        omega (arith, mul-le-mul_left period (small (a + 0)), ap (λ (x : ℕ). period * sum f x) (add-zero a))
+        grind (arith, mul-le-mul_left period (small (a + 0)))
     window-most a (suc n) =
         elim (dec_le (f (a + suc n)) 0) [
           | yes none ↦

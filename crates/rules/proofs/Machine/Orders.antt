@@ -1,16 +1,17 @@
 -- "In any order" is exactly equality of counts; "among" is exactly counts that are no larger.
 use mathlib.Core.Path.{◌≡◌, refl}
-use mathlib.Core.Bool.{Bool, true, false, ◌&&◌}
+use mathlib.Core.Bool.{Bool, true, ◌&&◌}
 use mathlib.Core.Logic.{inl, inr}
 use mathlib.Core.List.{List, [], ◌∷◌}
 use Prim.Native.Nat.{ℕ, ◌+◌, ◌≤◌, ◌<◌}
 use native.Mathlib.Omega.{arith}
 use lib.Dec.{eqb}
-use borrow.Author.Tests.{eqb-true, eq-eqb}
+use Rattle.std.proofs.lemmas.Bool.Decides.{nat_tests}
+use Rattle.std.proofs.lemmas.Bool.{cases_Bool}
 use Rattle.rules.specs.Words.{total, gathered, only}
 use Rattle.rules.specs.Machine.{Frame, Put, here, later, AnyOrder, none, more}
 use Rattle.rules.specs.Promise.{Among}
-use Rattle.rules.proofs.Sums.{bool_cases, sum-grows, total-append, total-gathered}
+use Rattle.rules.proofs.Sums.{sum-grows, total-append, total-gathered}
 
 -- the two frames are the same
 abbrev pub same : Frame → Frame → Bool
@@ -20,21 +21,15 @@ same f x = eqb f.channel x.channel && (eqb f.born x.born && eqb f.size x.size)
 abbrev pub count : Frame → List Frame → ℕ
 count f xs = total (λ (x : Frame). only (same f x) 1) xs
 
-and_true : (a b : Bool) → a && b ≡ true → (a ≡ true) × (b ≡ true)
-and_true true b e = (refl, e)
-and_true false b e = (e, cc)
-
 same_true : (f x : Frame) → same f x ≡ true → f ≡ x
 same_true f x e =
-    let both = and_true (eqb f.channel x.channel) (eqb f.born x.born && eqb f.size x.size) e in
-    let rest = and_true (eqb f.born x.born) (eqb f.size x.size) both.1 in
-    let channels : f.channel ≡ x.channel = eqb-true _ _ both.0 in
-    let borns : f.born ≡ x.born = eqb-true _ _ rest.0 in
-    let sizes : f.size ≡ x.size = eqb-true _ _ rest.1 in
+    let channels : f.channel ≡ x.channel = grind (arith, nat_tests) in
+    let borns : f.born ≡ x.born = grind (arith, nat_tests) in
+    let sizes : f.size ≡ x.size = grind (arith, nat_tests) in
     λ i. record { channel = channels i; born = borns i; size = sizes i }
 
 same_self : (f : Frame) → same f f ≡ true
-same_self f = rw (eq-eqb f.channel f.channel refl, eq-eqb f.born f.born refl, eq-eqb f.size f.size refl)
+same_self f = grind (arith, nat_tests)
 
 put-total : (g : Frame → ℕ) {x : Frame} {ys zs : List Frame} → Put x ys zs → total g zs ≡ g x + total g ys
 unfolding total
@@ -51,7 +46,7 @@ taken : (x : Frame) (zs : List Frame) → 0 < count x zs → (ys : List Frame) �
 unfolding total
 taken x [] h = absurd (omega arith)
 taken x (z ∷ zs) h =
-    elim (bool_cases (same x z)) [
+    elim (cases_Bool (same x z)) [
       | inl e ↦ (zs, rw (same_true x z e) here)
       | inr e ↦ (let rest = taken x zs (omega (arith, rw e at h)) in (z ∷ rest.0, later rest.1))
     ]

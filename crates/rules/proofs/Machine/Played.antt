@@ -1,13 +1,13 @@
 -- The step function gives an allowed run, for any releases, any order and any choice of holds.
-use mathlib.Core.Path.{◌≡◌, refl, ap, sym, ◌∙◌}
+use mathlib.Core.Path.{◌≡◌, refl, ap, ◌∙◌}
 use mathlib.Core.Bool.{cond}
 use mathlib.Core.List.{List, [], ◌∷◌, map}
 use Prim.Native.Nat.{ℕ, zero, suc, ◌-◌, ◌≤◌, ◌<◌}
-use native.Mathlib.Decide.{dec_le, ℕ_discrete}
+use native.Mathlib.Decide.{ℕ_discrete}
 use native.Mathlib.Omega.{arith}
 use lib.Dec.{leb}
 use lib.ListN.{get_or, get_or-replicate}
-use borrow.Author.Tests.{le-leb, lt-leb}
+use Rattle.std.proofs.lemmas.Bool.Decides.{nat_tests}
 use Rattle.rules.specs.Words.{listed, gathered, cut}
 use Rattle.rules.specs.Table.{View, Source, nowhere, release, wire, source}
 use Rattle.rules.specs.Office.{K}
@@ -26,11 +26,7 @@ module _ (t : View) (one other : Gone) (slot v : ℕ)
     (agree : (earlier : ℕ) → earlier < slot → one v earlier ≡ other v earlier) where
   ago : (later : ℕ) → 0 < later →
       cond (leb later slot) (one v (slot - later)) [] ≡ cond (leb later slot) (other v (slot - later)) []
-  ago later some =
-      elim (dec_le later slot) [
-        | yes l ↦ rw (le-leb later slot l) (agree (slot - later) (omega arith))
-        | no n ↦ rw (lt-leb later slot (omega arith)) refl
-      ]
+  ago later some = grind (arith, nat_tests, agree (slot - later))
 
   pub reaching-same : reaching t one v slot ≡ reaching t other v slot
   unfolding reaching
@@ -50,23 +46,13 @@ module _
     unfolding due
     due-same w = gathered-same _ _ t.channels (λ k l. from-same (source (t.route k) w) k)
 
--- a choice is cut to K, and what is left of a hold is no more
-cut_most : (x most : ℕ) → cut x most ≤ most
-cut_most x most =
-    elim (dec_le x most) [
-      | yes l ↦ rw (le-leb x most l) l
-      | no n ↦ rw (lt-leb x most (omega arith)) (omega arith)
-    ]
-
+-- what bounds the choice and what is left of a hold bounds the hold
 holding-most : (queue full : List Waiting) (most chosen left : ℕ) → chosen ≤ most → left ≤ most
     → holding queue full chosen left ≤ most
 unfolding holding
 holding-most [] [] most chosen left c l = omega arith
 holding-most [] (x ∷ full) most chosen left c l = c
 holding-most (x ∷ queue) full most chosen left c l = l
-
-less : {a b : ℕ} → a ≤ b → a - 1 ≤ b
-less l = omega arith
 
 holding-left : (queue full : List Waiting) (chosen left : ℕ) → ¬ (queue ≡ []) → holding queue full chosen left ≡ left
 unfolding holding
@@ -90,13 +76,10 @@ module _ (t : View) (released : Releases) (order : Order) (choice : Choice) wher
   seen-later zero v earlier l = absurd (omega arith)
   seen-later (suc slot) v earlier l =
       elim (ℕ_discrete earlier slot) [
-        | yes e ↦
-            ap (λ (x : ℕ). gone_in (played t released order choice (suc slot)) (suc slot) v x) e
-            ∙ ap (λ (x : ℕ). gone_at v x) (sym e)
+        | yes e ↦ rw e refl
         | no d ↦
             (let one_more : suc slot - suc earlier ≡ suc (slot - suc earlier) = omega arith in
-            ap (λ (i : ℕ). get_or (get_or (played t released order choice (suc slot)).past i []) v []) one_more
-            ∙ seen-later slot v earlier (omega arith))
+            rw one_more (seen-later slot v earlier (omega arith)))
       ]
 
   -- what arrives, and what then waits
@@ -161,12 +144,10 @@ module _ (t : View) (released : Releases) (order : Order) (choice : Choice) wher
 
   held-step : (w slot : ℕ) → w < t.wires → held_in (played t released order choice slot) w ≤ K t w → held_at w slot ≤ K t w
   held-step w slot l before =
-      omega (
-        arith,
-        held_now w slot l,
-        holding-most (queue_in (played t released order choice slot) w) (waiting_at w slot) (K t w) _ _
-            (cut_most (choice slot w) (K t w)) (less before),
-      )
+      let state = played t released order choice slot in
+      let chosen : cut (choice slot w) (K t w) ≤ K t w = grind (arith, nat_tests) in
+      let left : held_in state w - 1 ≤ K t w = omega arith in
+      omega (arith, held_now w slot l, holding-most (queue_in state w) (waiting_at w slot) (K t w) _ _ chosen left)
 
   pub held_at-most : (w slot : ℕ) → w < t.wires → held_at w slot ≤ K t w
   unfolding played
@@ -218,14 +199,13 @@ module _ (t : View) (released : Releases) (order : Order) where
   unfolding played
   held_none w zero l = get_or-replicate {A = ℕ} t.wires w 0 0 l
   held_none w (suc slot) l =
-      let left = held_in (played t released order no_choice slot) w - 1 in
-      let chosen = cut (no_choice slot w) (K t w) in
-      let none : chosen ≤ 0 = rw (le-leb 0 (K t w) (omega arith)) (omega arith) in
+      let state = played t released order no_choice slot in
+      let none : cut (no_choice slot w) (K t w) ≤ 0 = grind (arith, nat_tests) in
+      let left : held_in state w - 1 ≤ 0 = omega (arith, held_none w slot l) in
       omega (
         arith,
         held_now t released order no_choice w slot l,
-        holding-most (queue_in (played t released order no_choice slot) w) (waiting_at t released order no_choice w slot)
-            0 chosen left none (omega (arith, held_none w slot l)),
+        holding-most (queue_in state w) (waiting_at t released order no_choice w slot) 0 _ _ none left,
       )
 
   abbrev pub alone_run : ((slot w : ℕ) (fs : List Frame) → AnyOrder fs (order slot w fs)) → Run t released nobody

@@ -3,10 +3,9 @@
 use mathlib.Core.Path.{◌≡◌, refl, ap, sym, ◌∙◌}
 use mathlib.Core.List.{List, [], ◌∷◌, ◌++◌, map, append_assoc, append-nil}
 use Prim.Native.Nat.{ℕ, zero, suc, ◌+◌, ◌-◌, ◌*◌, ◌≤◌, ◌<◌}
-use native.Mathlib.Nat.{add-zero}
 use native.Mathlib.Decide.{dec_le}
 use native.Mathlib.Omega.{arith}
-use borrow.Author.Tests.{le-leb, lt-leb}
+use Rattle.std.proofs.lemmas.Bool.Decides.{nat_tests}
 use Rattle.rules.specs.Words.{sum, total}
 use Rattle.rules.specs.Machine.{Frame, Waiting, whole, sent, kept, bytes, joined}
 use Rattle.rules.proofs.Sums.{sum-grows, total-append, total-map}
@@ -27,46 +26,29 @@ size_of f = f.size
 conserved : (g : Frame → ℕ) (b : ℕ) (q : List Waiting) → total g (sent b q) + weight g (kept b q) ≡ weight g q
 unfolding sent kept total
 conserved g b [] = refl
-conserved g b (x ∷ q) =
-    elim (dec_le x.left b) [
-      | yes l ↦ rw (le-leb x.left b l) (omega (arith, conserved g (b - x.left) q))
-      | no n ↦ rw (lt-leb x.left b (omega arith)) (omega arith)
-    ]
+conserved g b (x ∷ q) = grind (arith, nat_tests, conserved g (b - x.left) q)
 
 -- It sends all it may, as long as there is something.
 kept-bytes : (b : ℕ) (q : List Waiting) → bytes (kept b q) ≡ bytes q - b
 unfolding kept bytes total
 kept-bytes b [] = omega arith
-kept-bytes b (x ∷ q) =
-    elim (dec_le x.left b) [
-      | yes l ↦ rw (le-leb x.left b l) (omega (arith, kept-bytes (b - x.left) q))
-      | no n ↦ rw (lt-leb x.left b (omega arith)) (omega arith)
-    ]
+kept-bytes b (x ∷ q) = grind (arith, nat_tests, kept-bytes (b - x.left) q)
 
 -- First come, first served: of a queue p, then r, p goes first.
 all-sent : (g : Frame → ℕ) (b : ℕ) (p r : List Waiting) → bytes p ≤ b → weight g p ≤ total g (sent b (p ++ r))
 unfolding sent bytes total
 all-sent g b [] r h = omega arith
-all-sent g b (x ∷ p) r h =
-    rw (le-leb x.left b (omega arith)) (omega (arith, all-sent g (b - x.left) p r (omega arith)))
+all-sent g b (x ∷ p) r h = grind (arith, nat_tests, all-sent g (b - x.left) p r)
 
 first-kept : (b : ℕ) (p r : List Waiting) → b < bytes p → kept b (p ++ r) ≡ kept b p ++ r
 unfolding kept bytes total
 first-kept b [] r h = absurd (omega arith)
-first-kept b (x ∷ p) r h =
-    elim (dec_le x.left b) [
-      | yes l ↦ rw (le-leb x.left b l) (first-kept (b - x.left) p r (omega arith))
-      | no n ↦ rw (lt-leb x.left b (omega arith)) refl
-    ]
+first-kept b (x ∷ p) r h = grind (arith, nat_tests, first-kept (b - x.left) p r)
 
 first-sent : (b : ℕ) (p r : List Waiting) → b < bytes p → sent b (p ++ r) ≡ sent b p
 unfolding sent bytes total
 first-sent b [] r h = absurd (omega arith)
-first-sent b (x ∷ p) r h =
-    elim (dec_le x.left b) [
-      | yes l ↦ rw (le-leb x.left b l) (ap (λ (fs : List Frame). x.frame ∷ fs) (first-sent (b - x.left) p r (omega arith)))
-      | no n ↦ rw (lt-leb x.left b (omega arith)) refl
-    ]
+first-sent b (x ∷ p) r h = grind (arith, nat_tests, first-sent (b - x.left) p r)
 
 bytes-append : (p r : List Waiting) → bytes (p ++ r) ≡ bytes p + bytes r
 unfolding bytes
@@ -76,8 +58,9 @@ bytes_whole : (fs : List Frame) → bytes (map whole fs) ≡ total size_of fs
 unfolding bytes
 bytes_whole fs = total-map (λ (x : Waiting). x.left) whole fs
 
-weight-whole : (g : Frame → ℕ) (fs : List Frame) → weight g (map whole fs) ≡ total g fs
-weight-whole g fs = total-map (λ (x : Waiting). g x.frame) whole fs
+weight-joined : (g : Frame → ℕ) (q : List Waiting) (fs : List Frame) → weight g (joined q fs) ≡ weight g q + total g fs
+weight-joined g q fs =
+    omega (arith, total-append (λ (x : Waiting). g x.frame) q (map whole fs), total-map (λ (x : Waiting). g x.frame) whole fs)
 
 -- A server: in slot s it may send `room s` bytes. Where its queue is left with bytes it has sent its rate, but for what
 -- stands in the way, `block s`; that grows only by `extra s`, which comes in slot s and goes first.
@@ -120,8 +103,7 @@ module _
           arith,
           balance g s,
           conserved g (room s) (joined (queue s) (arrived s)),
-          total-append (λ (x : Waiting). g x.frame) (queue s) (map whole (arrived s)),
-          weight-whole g (arrived s),
+          weight-joined g (queue s) (arrived s),
         ))
 
     -- Busy period: where every window that ends in slot s and begins with an empty queue brings little enough, so much is unsent.
@@ -137,18 +119,15 @@ module _
         let none : bytes (queue 0) ≡ 0 = ap bytes server.empty in
         omega (arith, unsent-bytes 0, h 0 0 refl none)
     busy (suc s) bound more h =
-        elim (dec_le (bytes (queue (suc s))) 0) [
-          | yes l ↦ omega (arith, unsent-bytes (suc s), h (suc s) 0 (omega arith) (omega arith))
-          | no n ↦
-              omega (
-                arith,
-                unsent-bytes (suc s),
-                left-bytes s,
-                server.serves s (omega arith),
-                busy s (bound + rate) (more + total size_of (arrived (suc s)) + extra (suc s))
-                    (λ a d e none. omega (arith, h a (suc d) (omega arith) none)),
-              )
-        ]
+        grind (
+          arith,
+          unsent-bytes (suc s),
+          left-bytes s,
+          server.serves s,
+          busy s (bound + rate) (more + total size_of (arrived (suc s)) + extra (suc s))
+              (λ a d e none. omega (arith, h a (suc d) (omega arith) none)),
+          h (suc s) 0,
+        )
 
     -- of what is unsent in slot s, p at the head
     module _ (s : ℕ) (p r : List Waiting) (e : joined (queue s) (arrived s) ≡ p ++ r) where
@@ -181,10 +160,7 @@ module _
         before gone g s + weight g p ≤ before gone g (suc (s + n))
     unfolding sum
     drained g zero s p r e h =
-        elim (dec_le (bytes p) (room s)) [
-          | yes l ↦ at_once s p r e g 0 l
-          | no n ↦ absurd (omega (arith, slower s p r e (omega arith), ap (λ (x : ℕ). sum extra (suc (suc x))) (add-zero s)))
-        ]
+        grind (arith, at_once s p r e g 0, slower s p r e)
     drained g (suc n) s p r e h =
         elim (dec_le (bytes p) (room s)) [
           | yes l ↦ at_once s p r e g (suc n) l
@@ -211,16 +187,7 @@ module _
         (burst : ℕ) → Bursts rate block extra queue arrived burst →
         (s : ℕ) → bytes (joined (queue s) (arrived s)) + block s ≤ burst
     unsent-most burst rule s =
-        omega (
-          arith,
-          busy s burst 0 (λ a d e none.
-              omega (
-                arith,
-                rule a d none,
-                ap (λ (x : ℕ). before arrived size_of (suc x)) e,
-                ap (λ (x : ℕ). sum extra (suc x)) e,
-              )),
-        )
+        omega (arith, busy s burst 0 (λ a d e none. grind (arith, rule a d none)))
 
     -- what is unsent in slot s, and what comes first, is no more than is sent by slot s + lag
     pub passes :
@@ -236,8 +203,7 @@ module _
               omega (
                 arith,
                 balance g s,
-                total-append (λ (x : Waiting). g x.frame) (queue s) (map whole (arrived s)),
-                weight-whole g (arrived s),
+                weight-joined g (queue s) (arrived s),
                 drained g lag s (joined (queue s) (arrived s)) [] (sym (append-nil (joined (queue s) (arrived s)))) (enough s),
               );
         }

@@ -1,16 +1,16 @@
 -- The promise is not empty: releases that keep their declaration without end, and runs that reach the figures, with the
 -- office machines' holds and without.
 use mathlib.Core.Path.{◌≡◌, refl, ap, ◌∙◌}
-use mathlib.Core.Bool.{Bool, true, false, cond}
-use mathlib.Core.Logic.{◌⊎◌, inl, inr}
+use mathlib.Core.Bool.{cond}
+use mathlib.Core.Logic.{◌⊎◌}
 use mathlib.Core.List.{List, [], ◌∷◌, ◌++◌, map}
 use Prim.Native.Nat.{ℕ, suc, ◌+◌, ◌-◌, ◌*◌, ◌/◌, ◌%◌, ◌≤◌, ◌<◌}
 use native.Mathlib.Nat.{div-add-mod', mul-le-mul_right, mul-mod_left, suc-mul}
-use native.Mathlib.Decide.{dec_le, ℕ_discrete}
 use native.Mathlib.Omega.{arith}
 use lib.ListN.{length}
 use lib.Dec.{ltb, eqb}
-use borrow.Author.Tests.{eq-eqb, ne_eqb}
+use borrow.Author.Tests.{eq-eqb}
+use Rattle.std.proofs.lemmas.Bool.Decides.{nat_tests}
 use Rattle.bits.specs.Field.{bit, field}
 use Rattle.rules.specs.Words.{sum, total, listed, gathered, up, only, has, begins, some}
 use Rattle.rules.specs.Numbers.{rates}
@@ -34,10 +34,6 @@ use Rattle.rules.proofs.Sums.{total-append}
 use Rattle.rules.proofs.Machine.Orders.{same, order_self, any_order_complete}
 use Rattle.rules.proofs.Machine.Played.{held_at, played-run, alone_run}
 
-only-most : (b : Bool) (n : ℕ) → only b n ≤ n
-only-most true n = omega arith
-only-most false n = omega arith
-
 -- Every channel releases its whole payload as often as it may, from slot 0 on.
 unfoldable pub periodic : View → Releases
 periodic t k r = only (eqb (r % t.period k) 0) (t.payload k)
@@ -48,25 +44,23 @@ periodic_without-end t k n = rw (eq-eqb (n * t.period k % t.period k) 0 (mul-mod
 
 released_multiple : (t : View) (k r : ℕ) → 0 < periodic t k r → r / t.period k * t.period k ≡ r
 unfolding periodic
-released_multiple t k r h =
-    elim (ℕ_discrete (r % t.period k) 0) [
-      | yes e ↦ omega (arith, div-add-mod' r (t.period k))
-      | no d ↦ absurd (omega (arith, rw (ne_eqb (r % t.period k) 0 d) at h))
-    ]
+released_multiple t k r h = grind (arith, nat_tests, div-add-mod' r (t.period k))
 
 pub periodic-keeps : (t : View) → Keeps t (periodic t)
 unfolding periodic
 periodic-keeps t =
     record {
-      declared = λ k r lk. only-most (eqb (r % t.period k) 0) (t.payload k);
+      declared = λ k r lk. grind (arith, nat_tests);
       apart = λ k r later lk l x y.
           (let p = t.period k in
           let first = released_multiple t k r x in
           let second = released_multiple t k later y in
-          elim (dec_le (suc (r / p)) (later / p)) [
-            | yes fine ↦ omega (arith, mul-le-mul_right p fine, suc-mul (r / p) p)
-            | no n ↦ absurd (omega (arith, mul-le-mul_right {m = later / p} {n = r / p} p (omega arith)))
-          ]);
+          grind (
+            arith,
+            mul-le-mul_right {m = suc (r / p)} {n = later / p} p,
+            suc-mul (r / p) p,
+            mul-le-mul_right {m = later / p} {n = r / p} p,
+          ));
     }
 
 -- Two orders: as they are due, and the last first.
@@ -299,25 +293,11 @@ sparse k r = cond (eqb r 1) 10 (cond (eqb r 24) 1465 0)
 
 sparse_slots : (k r : ℕ) → 0 < sparse k r → (r ≡ 1) ⊎ (r ≡ 24)
 unfolding sparse
-sparse_slots k r h =
-    elim (ℕ_discrete r 1) [
-      | yes first ↦ inl first
-      | no n ↦ elim (ℕ_discrete r 24) [
-        | yes second ↦ inr second
-        | no m ↦ absurd (omega (arith, rw (ne_eqb r 1 n, ne_eqb r 24 m) at h))
-      ]
-    ]
+sparse_slots k r h = grind (arith, nat_tests)
 
 sparse-most : (k r : ℕ) → sparse k r ≤ 1465
 unfolding sparse
-sparse-most k r =
-    elim (ℕ_discrete r 1) [
-      | yes first ↦ rw (eq-eqb r 1 first) (omega arith)
-      | no n ↦ elim (ℕ_discrete r 24) [
-        | yes second ↦ rw (ne_eqb r 1 n, eq-eqb r 24 second) (omega arith)
-        | no m ↦ rw (ne_eqb r 1 n, ne_eqb r 24 m) (omega arith)
-      ]
-    ]
+sparse-most k r = grind (arith, nat_tests)
 
 three-channel : ((view_of three_hops).channels ≡ 1) × ((view_of three_hops).payload 0 ≡ 1465) × ((view_of three_hops).period 0 ≡ 20)
 unfolding definitions
@@ -332,10 +312,7 @@ sparse-keeps =
       declared = λ k r l. omega (arith, sparse-most k r, ap (view_of three_hops).payload (sole k l), three-channel.1);
       apart = λ k r later l less x y.
           (let period : (view_of three_hops).period k ≡ 20 = ap (view_of three_hops).period (sole k l) ∙ three-channel.2 in
-          elim (sparse_slots k r x) [
-            | inl first ↦ elim (sparse_slots k later y) [ inl again ↦ absurd (omega arith) | inr second ↦ omega arith ]
-            | inr first ↦ elim (sparse_slots k later y) [ inl again ↦ absurd (omega arith) | inr second ↦ absurd (omega arith) ]
-          ]);
+          grind (arith, sparse_slots k r x, sparse_slots k later y));
     }
 
 abbrev pub run_three : Run (view_of three_hops) sparse nobody

@@ -5,7 +5,8 @@ use Prim.Native.Nat.{ℕ, zero, suc, ◌+◌, ◌-◌, ◌≤◌, ◌<◌}
 use native.Mathlib.Omega.{arith}
 use lib.ListN.{length, take, drop, replicate, length-append, length-replicate}
 use lib.Seq.{take_at, drop_at}
-use borrow.Author.Tests.{le-leb, lt-ltb, le-ltb}
+use borrow.Author.Tests.{lt-ltb, le-ltb}
+use Rattle.std.proofs.lemmas.Bool.Decides.{nat_tests}
 use Rattle.bits.specs.Field.{bit, field, Bytes}
 use Rattle.bits.proofs.Laws.{field-append}
 use Rattle.rules.specs.Numbers.{wires_bits, channels_bits}
@@ -89,7 +90,7 @@ unfolding bit field sheet_wires sheet_tests test
 ask-filled zero l = absurd (omega arith)
 ask-filled (suc k) l =
     always (255 ∷ replicate k 255) (refused 17 0) (λ rest.
-    rw (le-leb 2 (suc (length (replicate {A = ℕ} k 255))) (omega (arith, length-replicate {A = ℕ} k 255))))
+    grind (arith, nat_tests, length-replicate {A = ℕ} k 255))
 
 pub no-sheet : (lent : ℕ) → NoSheet lent (replicate lent 255)
 no-sheet lent =

@@ -6,6 +6,7 @@ use Prim.Native.Nat.{ℕ, zero, suc, ◌+◌, ◌*◌, ◌^◌, ◌≤◌, ◌<�
 use native.Mathlib.Nat.{add-zero, add-suc, le_dest}
 use native.Mathlib.Omega.{arith}
 use lib.ListN.{length, replicate, length-replicate}
+use Rattle.std.proofs.lemmas.Grind.{common_steps}
 use Rattle.bits.specs.Field.{field, put_field, Bytes}
 use Rattle.bits.proofs.Laws.{length-put_field, field-put_field, field-put_field-other, field-zeros, bytes-put_field}
 use Rattle.rules.specs.Numbers.{wires_bits, wires_most, channels_bits, channels_most}
@@ -96,9 +97,7 @@ unfolding sheet_length
 end-within n m = omega arith
 
 pub bytes-replicate : (n a : ℕ) → a < 256 → Bytes (replicate n a)
-bytes-replicate zero a h i = omega arith
-bytes-replicate (suc n) a h zero = h
-bytes-replicate (suc n) a h (suc i) = bytes-replicate n a h i
+bytes-replicate n a h i = grind (arith, common_steps)
 
 -- ---- the parts of the sheet, each from where it starts
 

@@ -1,12 +1,12 @@
 -- What the fields that are put leave: the head, a turn of each loop, and the whole sheet in a filled buffer.
 use mathlib.Core.Path.{◌≡◌, refl, ap, ◌∙◌}
 use mathlib.Core.List.{List, ◌++◌}
-use Prim.Native.Nat.{ℕ, zero, suc, ◌+◌, ◌-◌, ◌*◌, ◌^◌, ◌≤◌, ◌<◌}
-use native.Mathlib.Nat.{sub-zero, zero-sub, suc-sub-suc}
+use Prim.Native.Nat.{ℕ, ◌+◌, ◌-◌, ◌*◌, ◌^◌, ◌≤◌, ◌<◌}
 use native.Mathlib.Numerals.{add-one}
 use native.Mathlib.Omega.{arith}
 use lib.ListN.{length, take, drop, replicate, length-replicate}
 use lib.Seq.{length-take-le}
+use Rattle.std.proofs.lemmas.List.{drop-replicate}
 use Rattle.bits.specs.Field.{put_field, widest, wrote_field}
 use Rattle.bits.proofs.Laws.{length-put_field, wrote_field-put}
 use Rattle.rules.specs.Numbers.{wires_bits, channels_bits, backlog_bits, delay_bits, end_bits}
@@ -40,11 +40,6 @@ module _ (s t : List ℕ) (at : ℕ) where
   unfolding end_at with_channels
   channel-put n e k q place h l =
       wrote_field-put t at end_bits (omega arith) (omega arith) (e k) l ∙ rw (q, place, add-one k)
-
-drop-replicate : (k n : ℕ) (v : ℕ) → drop k (replicate n v) ≡ replicate (n - k) v
-drop-replicate zero n v = rw sub-zero
-drop-replicate (suc k) zero v = rw zero-sub
-drop-replicate (suc k) (suc n) v = rw suc-sub-suc (drop-replicate k n v)
 
 -- a buffer s of 255 whose first bytes are made 0 and then the sheet
 pub sheet-put : (n m : ℕ) (b d e : ℕ → ℕ) (r : ℕ) (s f z h w c : List ℕ) → r ≡ sheet_length n m → r ≤ length s

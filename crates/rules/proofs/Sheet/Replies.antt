@@ -1,21 +1,21 @@
 -- Asking a sheet, by its replies: what each test refuses, and what is known where all are passed.
-use mathlib.Core.Path.{◌≡◌, refl, sym, ◌∙◌}
-use mathlib.Core.Logic.{◌⊎◌, inl, inr, ◌≢◌}
+use mathlib.Core.Path.{◌≡◌, ◌∙◌}
+use mathlib.Core.Logic.{◌⊎◌, ◌≢◌}
 use mathlib.Core.Bool.{Bool, true, false, ◌&&◌}
 use mathlib.Core.List.{List, [], ◌∷◌}
 use Prim.Native.Nat.{ℕ, ◌+◌, ◌-◌, ◌*◌, ◌≤◌, ◌<◌}
 use native.Mathlib.Omega.{arith}
-use native.Mathlib.Decide.{dec_le, ℕ_discrete}
 use lib.ListN.{length}
 use lib.Dec.{eqb}
-use borrow.Author.Tests.{le-leb, lt-leb, lt-ltb, le-ltb, eq-eqb, ne_eqb}
+use borrow.Author.Tests.{lt-leb, lt-ltb, le-ltb, eq-eqb, ne_eqb}
+use Rattle.std.proofs.lemmas.Bool.Decides.{nat_tests}
 use Rattle.bits.specs.Field.{field}
 use Rattle.rules.specs.Words.{up, between}
 use Rattle.rules.specs.Numbers.{wires_most, channels_most, backlog_bits, delay_bits, end_bits}
 use Rattle.rules.specs.Replies.{Reply, granted, refused, test}
 use Rattle.rules.specs.Table.{filling_of}
 use Rattle.rules.specs.Sheet.{figures_at, end_at, sheet_length, sheet_wires, sheet_channels, sheet_tests, ask_wire, ask_channel}
-use Rattle.rules.proofs.Tests.{gate_through, le-gate}
+use Rattle.rules.proofs.Tests.{Gate, gate-granted, gate_iff, gate_then, le-gate, eq-gate, between-gate}
 use Rattle.rules.proofs.Sheet.Fitting.{true_ranged}
 
 -- a count outside its range
@@ -31,14 +31,6 @@ pub record Counted (s : List ℕ) : Type 0 where
   pub channels_at_most : sheet_channels s ≤ channels_most
 
 -- ---- the tests, by the first that fails
-
--- two tests that give the same refusal
-one_fails : (a b : Bool) (number place : ℕ) (rest : Reply) → a && b ≡ false
-    → test a number place (test b number place rest) ≡ refused number place
-unfolding test
-one_fails true true number place rest e = cc
-one_fails true false number place rest e = refl
-one_fails false b number place rest e = refl
 
 module _ (s : List ℕ) where
   -- both counts are within their ranges
@@ -63,48 +55,23 @@ module _ (s : List ℕ) (rest : Reply) where
 
   module _ (two : 2 ≤ length s) where
     pub tests_counts : counts s ≡ false → sheet_tests s rest ≡ refused 17 0
-    unfolding sheet_tests
-    tests_counts e =
-        gate_through (le-gate 16 0 2 (length s)) two _
-        ∙ one_fails (between 1 (sheet_wires s) wires_most) (between 1 (sheet_channels s) channels_most) 17 0 _ e
+    unfolding sheet_tests test
+    tests_counts e = grind (arith, nat_tests)
 
     pub tests-wires : Outside (sheet_wires s) wires_most → sheet_tests s rest ≡ refused 17 0
     unfolding sheet_tests test
-    tests-wires (inl l) = rw (le-leb 2 (length s) two, lt-leb 1 (sheet_wires s) l)
-    tests-wires (inr l) = rw (le-leb 2 (length s) two, le-leb 1 (sheet_wires s) (omega arith), lt-leb (sheet_wires s) wires_most l)
+    tests-wires o = grind (arith, nat_tests)
 
     module _ (wires_at_least : 1 ≤ sheet_wires s) (wires_at_most : sheet_wires s ≤ wires_most) where
       pub tests-channels : Outside (sheet_channels s) channels_most → sheet_tests s rest ≡ refused 17 0
       unfolding sheet_tests test
-      tests-channels (inl l) =
-          rw (
-            le-leb 2 (length s) two,
-            le-leb 1 (sheet_wires s) wires_at_least,
-            le-leb (sheet_wires s) wires_most wires_at_most,
-            lt-leb 1 (sheet_channels s) l,
-          )
-      tests-channels (inr l) =
-          rw (
-            le-leb 2 (length s) two,
-            le-leb 1 (sheet_wires s) wires_at_least,
-            le-leb (sheet_wires s) wires_most wires_at_most,
-            le-leb 1 (sheet_channels s) (omega arith),
-            lt-leb (sheet_channels s) channels_most l,
-          )
+      tests-channels o = grind (arith, nat_tests)
 
   module _ (counted : Counted s) (end : ℕ) (is : end ≡ end_at (sheet_wires s) (sheet_channels s)) where
     -- what is left are the tests of length and filling
     left : sheet_tests s rest ≡ test (eqb (length s) (up end 8)) 16 0 (test (eqb (field s end (8 * length s - end)) 0) 18 0 rest)
     unfolding sheet_tests sheet_length filling_of test
-    left =
-        rw (
-          is,
-          le-leb 2 (length s) counted.two_bytes,
-          le-leb 1 (sheet_wires s) counted.wires_at_least,
-          le-leb (sheet_wires s) wires_most counted.wires_at_most,
-          le-leb 1 (sheet_channels s) counted.channels_at_least,
-          le-leb (sheet_channels s) channels_most counted.channels_at_most,
-        )
+    left = grind (arith, nat_tests)
 
     pub tests-length : length s ≢ up end 8 → sheet_tests s rest ≡ refused 16 0
     unfolding test
@@ -132,36 +99,24 @@ pub record Passed (s : List ℕ) : Type 0 where
   pub counted : Counted s
   pub all_there : length s ≡ up (end_at (sheet_wires s) (sheet_channels s)) 8
 
-module _ (s : List ℕ) (goes_on : (rest : Reply) → sheet_tests s rest ≡ rest) where
-  -- what the tests would else refuse
-  holds : {A : Type 0} {number : ℕ} → Dec A → ((A → ⊥) → sheet_tests s (granted []) ≡ refused number 0) → A
-  holds (yes a) h = a
-  holds {number = number} (no n) h =
-      let e : granted [] ≡ refused number 0 = sym (goes_on (granted [])) ∙ h n in
-      let z : ◌≡◌ {A = ℕ} 0 1 = cc in
-      absurd (omega arith)
+module _ (s : List ℕ) where
+  sheet_gate :
+      let end = end_at (sheet_wires s) (sheet_channels s) in
+      Gate (Counted s × (length s ≡ up end 8) × (filling_of s end ≡ 0)) (sheet_tests s)
+  unfolding sheet_tests sheet_length
+  sheet_gate =
+      gate_iff
+      (λ h. grind arith) (λ c. grind arith)
+      (gate_then (le-gate 16 0 2 (length s))
+      (gate_then (between-gate 17 0 1 (sheet_wires s) wires_most)
+      (gate_then (between-gate 17 0 1 (sheet_channels s) channels_most)
+      (gate_then (eq-gate 16 0 (length s) (up (end_at (sheet_wires s) (sheet_channels s)) 8))
+      (eq-gate 18 0 (filling_of s (end_at (sheet_wires s) (sheet_channels s))) 0)))))
 
-  passed_counts : Counted s
-  passed_counts =
-      let two : 2 ≤ length s = holds (dec_le 2 (length s)) (λ o. tests_short s _ (omega arith)) in
-      let some : 1 ≤ sheet_wires s = holds (dec_le 1 (sheet_wires s)) (λ o. tests-wires s _ two (inl (omega arith))) in
-      let few : sheet_wires s ≤ wires_most
-      = holds (dec_le (sheet_wires s) wires_most) (λ o. tests-wires s _ two (inr (omega arith))) in
-      record {
-        two_bytes = two;
-        wires_at_least = some;
-        wires_at_most = few;
-        channels_at_least = holds (dec_le 1 (sheet_channels s)) (λ o. tests-channels s _ two some few (inl (omega arith)));
-        channels_at_most = holds (dec_le (sheet_channels s) channels_most) (λ o. tests-channels s _ two some few (inr (omega arith)));
-      }
-
-  passed : Passed s
-  passed =
-      record {
-        goes_on = goes_on;
-        counted = passed_counts;
-        all_there = holds (ℕ_discrete (length s) _) (λ o. tests-length s _ passed_counts _ refl o);
-      }
+  passed : ((rest : Reply) → sheet_tests s rest ≡ rest) → Passed s
+  passed goes_on =
+      let h = (gate-granted sheet_gate (granted []) [] (goes_on (granted []))).0 in
+      record { goes_on = goes_on; counted = h.0; all_there = h.1 }
 
 module _ (s : List ℕ) (number : ℕ) (fault : Fault s number) where
   pub fault-none : number ≡ 0 → Passed s

@@ -5,16 +5,17 @@ use mathlib.Core.Bool.{true}
 use mathlib.Core.List.{List}
 use Prim.Native.Nat.{ℕ, zero, suc, ◌≤◌, ◌<◌}
 use native.Mathlib.Omega.{arith}
-use lib.ListN.{take, replicate}
+use Rattle.std.proofs.lemmas.Bool.{and_parts}
+use Rattle.std.specs.Prelude.{Some, None}
+use lib.ListN.{take, replicate, get_or}
 use lib.Seq.{take_at}
 use borrow.Author.Tests.{le-leb, lt-leb}
 use Rattle.rules.specs.declared.Figures.{Figures}
-use Rattle.rules.specs.declared.Written.TheVariants.{Length, Nothing}
-use Rattle.rules.specs.Words.{entries}
+use Rattle.rules.specs.declared.WireFigures.{WireFigures}
 use Rattle.rules.specs.Numbers.{wires_most, channels_most}
 use Rattle.rules.specs.Replies.{granted}
 use Rattle.rules.specs.Table.{View}
-use Rattle.rules.specs.Decoded.{figures_of}
+use Rattle.rules.specs.Decoded.{figures_of, no_wire_figures, wire_figures_of, backlog_in, delay_in, end_in}
 use Rattle.rules.specs.Bounds.{backlog, delay, end_to_end}
 use Rattle.rules.specs.Sheet.{fits, sheet_length, with_wires, with_channels, sheet_of, writes, written_of, wrote_sheet}
 use Rattle.rules.specs.Judgement.{length_of, sheet, leaves}
@@ -22,7 +23,7 @@ use Rattle.rules.specs.Incident.{Answers}
 use Rattle.rules.proofs.Tables.Columns.{column-at}
 use Rattle.rules.proofs.Sheet.Laws.{length-sheet_of}
 use Rattle.rules.proofs.Sheet.Asking.{FitsSheet, ask-written}
-use Rattle.rules.proofs.Sheet.Fitting.{FitsFigures, and_true, fits-true, true-fits}
+use Rattle.rules.proofs.Sheet.Fitting.{FitsFigures, fits-true, true-fits}
 
 abbrev pub Same : ℕ → (ℕ → ℕ) → (ℕ → ℕ) → Type 0
 Same n f g = (i : ℕ) → i < n → f i ≡ g i
@@ -51,17 +52,22 @@ sheet_of-same n m b d e b' d' e' hb hd he =
 -- ---- the figures of a view that fit
 
 module _ (t : View) (held : FitsSheet t) where
-  backlogs : Same t.wires (entries (figures_of t).backlog) (backlog t)
+  figures-at : (w : ℕ) → w < t.wires → get_or (figures_of t).wire w no_wire_figures ≡ wire_figures_of t w
   unfolding figures_of
-  backlogs w l = column-at wires_most (backlog t) t.wires w l (omega (arith, held.wires_at_most))
+  figures-at w l =
+      column-at no_wire_figures wires_most (wire_figures_of t) t.wires w no_wire_figures l (omega (arith, held.wires_at_most))
 
-  delays : Same t.wires (entries (figures_of t).delay) (delay t)
-  unfolding figures_of
-  delays w l = column-at wires_most (delay t) t.wires w l (omega (arith, held.wires_at_most))
+  backlogs : Same t.wires (backlog_in (figures_of t)) (backlog t)
+  unfolding wire_figures_of
+  backlogs w l = ap (λ (x : WireFigures). x.backlog) (figures-at w l)
 
-  ends : Same t.channels (entries (figures_of t).end) (end_to_end t)
+  delays : Same t.wires (delay_in (figures_of t)) (delay t)
+  unfolding wire_figures_of
+  delays w l = ap (λ (x : WireFigures). x.delay) (figures-at w l)
+
+  ends : Same t.channels (end_in (figures_of t)) (end_to_end t)
   unfolding figures_of
-  ends k l = column-at channels_most (end_to_end t) t.channels k l (omega (arith, held.channels_at_most))
+  ends k l = column-at 0 channels_most (end_to_end t) t.channels k 0 l (omega (arith, held.channels_at_most))
 
   pub fits-held : FitsFigures t.wires t.channels (figures_of t)
   fits-held =
@@ -79,10 +85,10 @@ module _ (t : View) (held : FitsSheet t) where
   view-fits = fits-true t.wires t.channels (figures_of t) fits-held
 
   module _ (lent : ℕ) where
-    pub written_view : length_of t ≤ lent → written_of t.wires t.channels (figures_of t) lent ≡ Length (length_of t)
+    pub written_view : length_of t ≤ lent → written_of t.wires t.channels (figures_of t) lent ≡ Some (length_of t)
     written_view l = rw (view-fits, le-leb (length_of t) lent l)
 
-    pub unwritten_view : lent < length_of t → written_of t.wires t.channels (figures_of t) lent ≡ Nothing
+    pub unwritten_view : lent < length_of t → written_of t.wires t.channels (figures_of t) lent ≡ None
     unwritten_view l = rw (view-fits, lt-leb (length_of t) lent l)
 
     pub wrote_view : (v : List ℕ) → length_of t ≤ lent
@@ -101,10 +107,10 @@ module _ (t : View) (held : FitsSheet t) where
 -- ---- asking what was written
 
 pub wrote-asked : (n m : ℕ) (f : Figures) (lent : ℕ) → writes n m f lent ≡ true
-    → Answers (take (sheet_length n m) (wrote_sheet n m f lent)) n m (entries f.backlog) (entries f.delay) (entries f.end)
+    → Answers (take (sheet_length n m) (wrote_sheet n m f lent)) n m (backlog_in f) (delay_in f) (end_in f)
 wrote-asked n m f lent e =
-    let b : ℕ → ℕ = entries f.backlog in
-    let d : ℕ → ℕ = entries f.delay in
-    let x : ℕ → ℕ = entries f.end in
-    let held : FitsFigures n m f = true-fits n m f (and_true _ _ e).0 in
+    let b : ℕ → ℕ = backlog_in f in
+    let d : ℕ → ℕ = delay_in f in
+    let x : ℕ → ℕ = end_in f in
+    let held : FitsFigures n m f = true-fits n m f (and_parts _ _ e).0 in
     rw (e, take_at (sheet_of n m b d x) _ (sheet_length n m) (length-sheet_of n m b d x)) (ask-written n m b d x held)

@@ -9,7 +9,7 @@ use native.Mathlib.Decide.{dec_le, dec_lt}
 use lib.ListN.{length, get_or, take, length-append}
 use lib.Seq.{length-take-le, take-append_seam, take-length}
 use lib.Dec.{ltb}
-use borrow.Author.Tests.{le-leb, lt-leb}
+use Rattle.std.proofs.lemmas.Bool.Decides.{nat_tests}
 use Rattle.bits.specs.Field.{bit, field, within, Bytes}
 use Rattle.bits.proofs.Laws.{field-take, field-bits, bits-eq}
 use Rattle.rules.specs.Words.{up, between}
@@ -85,9 +85,9 @@ module _ (s : List ℕ) (k : ℕ) (le : k ≤ length s) where
   unfolding test
   within-alike at w w' e h = elim (dec_le (at + w) (8 * k)) [
     | yes l ↦ pass l
-        (λ rest. rw (le-leb (at + w) (8 * length s) (omega arith)))
-        (λ rest. rw (e, length-take-le k s le, le-leb (at + w) (8 * k) l))
-    | no o ↦ lack (omega arith) (λ rest. rw (e, length-take-le k s le, lt-leb (at + w) (8 * k) (omega arith)))
+        (λ rest. grind (arith, nat_tests))
+        (λ rest. grind (arith, nat_tests, length-take-le k s le))
+    | no o ↦ lack (omega arith) (λ rest. grind (arith, nat_tests, length-take-le k s le))
   ]
 
   head_fields : head_bits ≤ 8 * k
@@ -209,11 +209,11 @@ module _ (s : List ℕ) (k : ℕ) (le : k ≤ length s) where
 -- ---- the laws
 
 not_both : {f : Reply → Reply} {n p : ℕ} → Through f → Stops f n p → ⊥
-not_both a b = let z : ◌≡◌ {A = ℕ} 0 1 = cc (a (granted []), b (granted [])) in omega arith
+not_both a b = cc (a (granted []), b (granted []))
 
 more-stops : (s : List ℕ) → end_of s ≤ 8 * (length s - 1) → 1 ≤ length s → Stops (filling_tests s) 11 0
 unfolding test filling_tests
-more-stops s l h rest = rw (lt-leb (length s) (up (end_of s) 8) (omega arith))
+more-stops s l h rest = grind (arith, nat_tests)
 
 fields_through : (s : List ℕ) → reading s ≡ granted [] → Through (fields_tests s)
 fields_through s e = gate_through (fields_gate s) (reading-passes s e).fields

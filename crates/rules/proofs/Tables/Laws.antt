@@ -70,22 +70,10 @@ module _ (s : List ℕ) where
   unfolding head_tests
   head_gate =
       gate_iff
-      (λ h. record {
-        inside = h.0;
-        hyper_at_least = h.1.0.0;
-        hyper_at_most = h.1.0.1;
-        wires_at_least = h.1.1.0.0;
-        wires_at_most = h.1.1.0.1;
-        channels_at_least = h.1.1.1.0;
-        channels_at_most = h.1.1.1.1;
-      })
-      (λ r. (
-        r.inside,
-        ((r.hyper_at_least, r.hyper_at_most), ((r.wires_at_least, r.wires_at_most), (r.channels_at_least, r.channels_at_most))),
-      ))
-      (gate_then (le-gate 1 0 _ _)
-      (gate_then (between-gate 2 0 _ _ _)
-      (gate_then (between-gate 3 0 _ _ _) (between-gate 4 0 _ _ _))))
+      (λ h. grind arith) (λ r. grind arith)
+      (gate_then (le-gate 1 0 head_bits (8 * length s))
+      (gate_then (between-gate 2 0 1 (hyper_of s) hyper_most)
+      (gate_then (between-gate 3 0 1 (wires_of s) wires_most) (between-gate 4 0 1 (channels_of s) channels_most))))
 
   pub wire-gate : (w : ℕ) → Gate (WirePasses s w) (wire_tests s w)
   unfolding wire_tests
@@ -101,15 +89,7 @@ pub value_gate : (c hyper payload period hops : ℕ)
 unfolding value_tests
 value_gate c hyper payload period hops =
     gate_iff
-    (λ h. record {
-      payload_at_least = h.0.0;
-      payload_at_most = h.0.1;
-      period_at_least = h.1.0.0;
-      divided = h.1.0.1;
-      hops_at_least = h.1.1.0;
-      hops_at_most = h.1.1.1;
-    })
-    (λ r. ((r.payload_at_least, r.payload_at_most), ((r.period_at_least, r.divided), (r.hops_at_least, r.hops_at_most))))
+    (λ h. grind arith) (λ r. grind arith)
     (gate_then (between-gate 6 c 1 payload payload_most)
     (gate_then (divides-gate 7 c period hyper) (between-gate 8 c 1 hops hops_most)))
 
@@ -172,7 +152,7 @@ module _ (s : List ℕ) where
 
 -- ---- a table that passes is sound
 
-rates-range : (c : ℕ) → c < length rates → (1 ≤ get_or rates c 0) × (get_or rates c 0 ≤ 100)
+pub rates-range : (c : ℕ) → c < length rates → (1 ≤ get_or rates c 0) × (get_or rates c 0 ≤ 100)
 rates-range zero l = omega arith
 rates-range (suc zero) l = omega arith
 rates-range (suc (suc zero)) l = omega arith

@@ -1,15 +1,16 @@
 -- The searches of reading, as code goes through them: what is left of a search from where it stands, and the refusal that
 -- ends it.
 use mathlib.Core.Path.{◌≡◌, refl, ap, ◌∙◌}
-use mathlib.Core.Logic.{◌⊎◌, inl, inr}
-use mathlib.Core.Bool.{Bool, true, false, ◌&&◌}
+use mathlib.Core.Logic.{◌⊎◌, inl}
 use mathlib.Core.List.{List}
 use Prim.Native.Nat.{ℕ, zero, suc, ◌+◌, ◌-◌, ◌*◌, ◌%◌, ◌≤◌, ◌<◌}
 use native.Mathlib.Numerals.{add-one}
 use native.Mathlib.Omega.{arith}
 use lib.ListN.{length, get_or}
-use lib.Dec.{leb, ltb, eqb}
-use borrow.Author.Tests.{lt-leb, le-ltb, ne_eqb}
+use lib.Dec.{leb, ltb}
+use borrow.Author.Tests.{lt-leb, le-ltb}
+use Rattle.std.proofs.lemmas.Bool.Decides.{nat_tests}
+use Rattle.std.proofs.lemmas.Grind.{common_steps}
 use Rattle.bits.specs.Field.{field}
 use Rattle.bits.proofs.Laws.{field_lt}
 use Rattle.rules.specs.Words.{between, up}
@@ -21,7 +22,7 @@ use Rattle.rules.specs.Table.{payload_at, period_at, hops_at, route_at, end_of, 
 use Rattle.rules.specs.Channel.{divides, value_tests, hop_tests, route_tests}
 use Rattle.rules.specs.Reading.{head_tests, wire_tests, record_tests, channel_tests, filling_tests}
 use Rattle.rules.proofs.Tests.{Through, Stops, gate_through, le-gate, lt-gate, between-gate}
-use Rattle.rules.proofs.Tables.Laws.{divides-gate, value_gate, filling_gate}
+use Rattle.rules.proofs.Tables.Laws.{rates-range, divides-gate, value_gate, filling_gate}
 
 -- ---- one test
 
@@ -38,28 +39,13 @@ module _ (n p : ℕ) where
   unfolding test
   lt-stops a b l rest = rw (le-ltb a b l)
 
-  pub eq-stops : (a b : ℕ) → (a ≡ b → ⊥) → Stops (test (eqb a b) n p) n p
-  unfolding test
-  eq-stops a b o rest = rw (ne_eqb a b o)
-
-  -- one test of two things: the first fails, or the second does
-  first_stops : (a b : Bool) → Stops (test a n p) n p → Stops (test (a && b) n p) n p
-  unfolding test
-  first_stops true b h rest = h _
-  first_stops false b h rest = refl
-
-  second_stops : (a b : Bool) → Stops (test b n p) n p → Stops (test (a && b) n p) n p
-  unfolding test
-  second_stops true b h rest = h rest
-  second_stops false b h rest = refl
-
   pub between-stops : (low x high : ℕ) → Outside low x high → Stops (test (between low x high) n p) n p
-  between-stops low x high (inl l) = first_stops (leb low x) (leb x high) (le-stops low x l)
-  between-stops low x high (inr l) = second_stops (leb low x) (leb x high) (le-stops x high l)
+  unfolding test
+  between-stops low x high o rest = grind (arith, nat_tests)
 
   pub divides-stops : (a b : ℕ) → (a ≡ 0) ⊎ (b % a ≡ 0 → ⊥) → Stops (test (divides a b) n p) n p
-  divides-stops a b (inl e) = first_stops (ltb 0 a) (eqb (b % a) 0) (lt-stops 0 a (omega arith))
-  divides-stops a b (inr o) = second_stops (ltb 0 a) (eqb (b % a) 0) (eq-stops (b % a) 0 o)
+  unfolding test
+  divides-stops a b o rest = grind (arith, nat_tests)
 
 -- ---- a search over items
 
@@ -278,25 +264,19 @@ module _ (s : List ℕ) where
       e ∙ ap (λ (k : ℕ). field s end k) f ∙ ap (λ (k : ℕ). field s k (8 * length s - k)) q
 
   pub filling_long : up (end_of s) 8 < length s → Stops (filling_tests s) 11 0
-  unfolding filling_tests
-  filling_long l = first_stops 11 0 _ _ (le-stops 11 0 _ _ l)
+  unfolding filling_tests test
+  filling_long l rest = grind (arith, nat_tests)
 
   pub filling_not_0 : (filling_of s (end_of s) ≡ 0 → ⊥) → Stops (filling_tests s) 11 0
-  unfolding filling_tests
-  filling_not_0 o = second_stops 11 0 (leb (length s) (up (end_of s) 8)) _ (eq-stops 11 0 _ _ o)
+  unfolding filling_tests test
+  filling_not_0 o rest = grind (arith, nat_tests)
 
   pub filling_passes : length s ≤ up (end_of s) 8 → filling_of s (end_of s) ≡ 0 → Through (filling_tests s)
   filling_passes l e = gate_through (filling_gate s) (record { no_more = l; zeros = e })
 
 -- a code has a rate where the rate is not 0
 pub no-rate : (code : ℕ) → get_or rates code 0 ≡ 0 → length rates ≤ code
-no-rate zero e = absurd (omega arith)
-no-rate (suc zero) e = absurd (omega arith)
-no-rate (suc (suc zero)) e = absurd (omega arith)
-no-rate (suc (suc (suc n))) e = omega arith
+no-rate code e = grind (arith, rates-range code)
 
 pub some-rate : (code : ℕ) → (get_or rates code 0 ≡ 0 → ⊥) → code < length rates
-some-rate zero o = omega arith
-some-rate (suc zero) o = omega arith
-some-rate (suc (suc zero)) o = omega arith
-some-rate (suc (suc (suc n))) o = absurd (o refl)
+some-rate code o = grind (arith, common_steps)

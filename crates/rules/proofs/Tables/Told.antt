@@ -1,63 +1,66 @@
 -- What the arrays of a table as read hold of its view.
-use mathlib.Core.Path.{◌≡◌, ap, ap₂, ◌∙◌}
-use mathlib.Core.List.{List, []}
-use Prim.Native.Nat.{ℕ, ◌+◌, ◌*◌, ◌≤◌, ◌<◌}
-use native.Mathlib.Omega.{arith}
+use mathlib.Core.Path.{◌≡◌, refl}
+use Prim.Native.Nat.{ℕ, ◌<◌}
 use lib.ListN.{length, get_or}
+use Rattle.rules.specs.declared.Wire.{Wire}
+use Rattle.rules.specs.declared.Channel.{Channel}
 use Rattle.rules.specs.declared.Table.{Table}
-use Rattle.rules.specs.Numbers.{wires_most, channels_most, hops_most, routes_most}
-use Rattle.rules.specs.Replies.{granted}
-use Rattle.rules.specs.Table.{View, view_of}
-use Rattle.rules.specs.Reading.{reading}
+use Rattle.rules.specs.Words.{entries}
+use Rattle.rules.specs.Numbers.{wires_most, channels_most, hops_most}
+use Rattle.rules.specs.Table.{View}
 use Rattle.rules.specs.Bounds.{cost, times}
-use Rattle.rules.specs.Decoded.{column, hop_of, table_of, table_left}
+use Rattle.rules.specs.Decoded.{column, no_wire, wire_of, no_channel, channel_of, table_of}
 use Rattle.rules.specs.Sound.{Sound}
-use Rattle.rules.proofs.Tables.Columns.{column-at}
+use Rattle.rules.proofs.Tables.Columns.{entry_at}
 
 pub record Told (t : View) (r : Table) : Type 0 where
   pub hyper : r.hyper ≡ t.hyper
   pub wires : r.wires ≡ t.wires
   pub channels : r.channels ≡ t.channels
-  pub rate : r.rate ≡ column wires_most t.wires t.rate
-  pub prop : r.prop ≡ column wires_most t.wires t.prop
-  pub room : r.room ≡ column wires_most t.wires t.room
-  pub price : r.price ≡ column channels_most t.channels (cost t)
-  pub times : r.times ≡ column channels_most t.channels (Rattle.rules.specs.Bounds.times t)
-  pub deadline : r.deadline ≡ column channels_most t.channels t.deadline
-  pub hops : r.hops ≡ column channels_most t.channels (λ k. length (t.route k))
-  pub route : r.route ≡ column routes_most (t.channels * hops_most) (hop_of t)
+  pub wire : r.wire ≡ column no_wire wires_most t.wires (wire_of t)
+  pub channel : r.channel ≡ column no_channel channels_most t.channels (channel_of t)
 
 pub told : (t : View) (r : Table) → r ≡ table_of t → Told t r
 unfolding table_of
-told t r e =
-    record {
-      hyper = ap (λ (x : Table). x.hyper) e;
-      wires = ap (λ (x : Table). x.wires) e;
-      channels = ap (λ (x : Table). x.channels) e;
-      rate = ap (λ (x : Table). x.rate) e;
-      prop = ap (λ (x : Table). x.prop) e;
-      room = ap (λ (x : Table). x.room) e;
-      price = ap (λ (x : Table). x.price) e;
-      times = ap (λ (x : Table). x.times) e;
-      deadline = ap (λ (x : Table). x.deadline) e;
-      hops = ap (λ (x : Table). x.hops) e;
-      route = ap (λ (x : Table). x.route) e;
-    }
+told t r e = rw e (record { hyper = refl; wires = refl; channels = refl; wire = refl; channel = refl })
 
--- what reading leaves of a table that it grants
-pub left-granted : (s : List ℕ) → reading s ≡ granted [] → table_left (reading s) (view_of s) ≡ table_of (view_of s)
-unfolding table_left
-left-granted s e = rw e
+-- of wire w its numbers
+pub record WireTold (t : View) (w : ℕ) (r : Wire) : Type 0 where
+  pub rate : r.rate ≡ t.rate w
+  pub prop : r.prop ≡ t.prop w
+  pub room : r.room ≡ t.room w
 
--- an entry of a column that an array is
-pub entry_at : (places n : ℕ) (f : ℕ → ℕ) (a : List ℕ) → a ≡ column places n f → n ≤ places → (i : ℕ) → i < n → get_or a i 0 ≡ f i
-entry_at places n f a e h i l = ap (λ (x : List ℕ). get_or x i 0) e ∙ column-at places f n i l (omega arith)
+pub wire_told : (t : View) (w : ℕ) (r : Wire) → r ≡ wire_of t w → WireTold t w r
+unfolding wire_of
+wire_told t w r e = rw e (record { rate = refl; prop = refl; room = refl })
 
--- the wire of hop i of channel k
-pub hop_at : (t : View) → Sound t → (a : List ℕ) → a ≡ column routes_most (t.channels * hops_most) (hop_of t)
-    → (k i : ℕ) → k < t.channels → i < length (t.route k) → get_or a (hops_most * k + i) 0 ≡ get_or (t.route k) i 0
-hop_at t sound a e k i l h =
-    let short : i < hops_most = omega (arith, sound.hops_at_most k l) in
-    entry_at routes_most (t.channels * hops_most) (hop_of t) a e (omega (arith, sound.channels_at_most))
-    (hops_most * k + i) (omega arith)
-    ∙ ap₂ (λ (x y : ℕ). get_or (t.route x) y 0) (omega arith) (omega arith)
+-- of channel k its numbers, and the wire of each of its hops
+pub record ChannelTold (t : View) (k : ℕ) (r : Channel) : Type 0 where
+  pub price : r.price ≡ cost t k
+  pub times : r.times ≡ Rattle.rules.specs.Bounds.times t k
+  pub deadline : r.deadline ≡ t.deadline k
+  pub hops : r.hops ≡ length (t.route k)
+  pub route : r.route ≡ column 0 hops_most (length (t.route k)) (entries (t.route k))
+
+pub channel_told : (t : View) (k : ℕ) (r : Channel) → r ≡ channel_of t k → ChannelTold t k r
+unfolding channel_of
+channel_told t k r e = rw e (record { price = refl; times = refl; deadline = refl; hops = refl; route = refl })
+
+-- of the wires and channels of a table as read
+module _ (t : View) (sound : Sound t) (r : Table) (h : Told t r) where
+  pub wire_at : (w : ℕ) (d : Wire) → w < t.wires → WireTold t w (get_or r.wire w d)
+  wire_at w d l =
+      wire_told t w (get_or r.wire w d)
+      (entry_at no_wire wires_most t.wires (wire_of t) r.wire h.wire sound.wires_at_most w d l)
+
+  pub channel_at : (k : ℕ) (d : Channel) → k < t.channels → ChannelTold t k (get_or r.channel k d)
+  channel_at k d l =
+      channel_told t k (get_or r.channel k d)
+      (entry_at no_channel channels_most t.channels (channel_of t) r.channel h.channel sound.channels_at_most k d l)
+
+  -- the wire of hop i of channel k
+  pub hop_at : (k i : ℕ) (d : Channel) (z : ℕ) → k < t.channels → i < length (t.route k)
+      → get_or (get_or r.channel k d).route i z ≡ get_or (t.route k) i 0
+  hop_at k i d z l m =
+      entry_at 0 hops_most (length (t.route k)) (entries (t.route k)) (get_or r.channel k d).route
+      (channel_at k d l).route (sound.hops_at_most k l) i z m

@@ -2,16 +2,16 @@
 use mathlib.Core.Path.{◌≡◌, refl, sym, ap, ◌∙◌}
 use mathlib.Core.List.{List, [], ◌∷◌, ◌++◌}
 use Prim.Native.Nat.{ℕ, zero, suc, ◌+◌, ◌-◌, ◌*◌, ◌/◌, ◌%◌, ◌^◌, ◌≤◌, ◌<◌}
-use native.Mathlib.Nat.{lt_of_lt_of_le, pow-suc, pow-le-pow_right, div-add-mod'}
+use native.Mathlib.Nat.{pow-suc, div-add-mod'}
 use native.Mathlib.Omega.{arith}
-use native.Mathlib.Decide.{dec_lt}
 use lib.ListN.{length, length-append}
-use borrow.Author.Tests.{lt-ltb, le-ltb}
+use borrow.Author.Tests.{le-ltb}
+use Rattle.std.proofs.lemmas.Bool.Decides.{nat_tests}
 use Rattle.rules.specs.Text.{digit, digits, digits_most, decimal}
 
 digits_last : (k n : ℕ) → n < 10 → digits (suc k) n ≡ digit n ∷ []
 unfolding digits
-digits_last k n l = rw (lt-ltb n 10 l) refl
+digits_last k n l = grind (arith, nat_tests)
 
 digits_more : (k n : ℕ) → 10 ≤ n → digits (suc k) n ≡ digits k (n / 10) ++ (digit (n % 10) ∷ [])
 unfolding digits
@@ -25,12 +25,16 @@ less k n l = omega (arith, l, pow-suc 10 k, div-add-mod' n 10)
 digits-enough : (k n : ℕ) → n < 10 ^ suc k → digits (suc (suc k)) n ≡ digits (suc k) n
 digits-enough zero n l = digits_last 1 n (omega (arith, l)) ∙ sym (digits_last 0 n (omega (arith, l)))
 digits-enough (suc k) n l =
-    elim (dec_lt n 10) [
-      | yes small ↦ digits_last (suc (suc k)) n small ∙ sym (digits_last (suc k) n small)
-      | no big ↦ digits_more (suc (suc k)) n (omega arith)
-          ∙ ap (λ (ds : List ℕ). ds ++ (digit (n % 10) ∷ [])) (digits-enough k (n / 10) (less (suc k) n l))
-          ∙ sym (digits_more (suc k) n (omega arith))
-    ]
+    grind (
+      arith,
+      nat_tests,
+      digits_more (suc (suc k)) n,
+      digits_more (suc k) n,
+      digits_last (suc (suc k)) n,
+      digits_last (suc k) n,
+      less (suc k) n,
+      digits-enough k (n / 10),
+    )
 
 pub decimal-last : (n : ℕ) → n < 10 → decimal n ≡ digit n ∷ []
 unfolding decimal
@@ -55,12 +59,14 @@ digits-read : (k n : ℕ) → n < 10 ^ k → says 0 (digits k n) ≡ n
 unfolding digits
 digits-read zero n l = omega (arith, l)
 digits-read (suc k) n l =
-    elim (dec_lt n 10) [
-      | yes small ↦ ap (says 0) (digits_last k n small) ∙ omega arith
-      | no big ↦ ap (says 0) (digits_more k n (omega arith))
-          ∙ says-append 0 (digits k (n / 10)) (digit (n % 10) ∷ [])
-          ∙ omega (arith, digits-read k (n / 10) (less k n l), div-add-mod' n 10)
-    ]
+    grind (
+      arith,
+      nat_tests,
+      says-append 0 (digits k (n / 10)) (digit (n % 10) ∷ []),
+      less k n,
+      digits-read k (n / 10),
+      div-add-mod' n 10,
+    )
 
 -- A number's digits read back as that number.
 pub decimal-read : (n : ℕ) → n < 10 ^ digits_most → says 0 (decimal n) ≡ n
@@ -71,34 +77,19 @@ digits-length : (k n : ℕ) → length (digits k n) ≤ k
 unfolding digits
 digits-length zero n = omega arith
 digits-length (suc k) n =
-    elim (dec_lt n 10) [
-      | yes small ↦ omega (arith, ap length (digits_last k n small))
-      | no big ↦
-          omega (
-            arith,
-            ap length (digits_more k n (omega arith)),
-            length-append (digits k (n / 10)) (digit (n % 10) ∷ []),
-            digits-length k (n / 10),
-          )
-    ]
+    grind (arith, nat_tests, length-append (digits k (n / 10)) (digit (n % 10) ∷ []), digits-length k (n / 10))
 
-digits_same : (j k n : ℕ) → n < 10 ^ suc k → digits (j + suc k) n ≡ digits (suc k) n
-digits_same zero k n l = ap (λ (m : ℕ). digits m n) (omega arith)
-digits_same (suc j) k n l =
-    let e : suc j + suc k ≡ suc (suc (j + k)) = omega arith in
-    let f : suc (j + k) ≡ j + suc k = omega arith in
-    ap (λ (m : ℕ). digits m n) e
-    ∙ digits-enough (j + k) n (lt_of_lt_of_le l (pow-le-pow_right (omega arith) (omega arith)))
-    ∙ ap (λ (m : ℕ). digits m n) f
-    ∙ digits_same j k n l
+digits-below : (j k n : ℕ) → n < 10 ^ suc k → length (digits j n) ≤ suc k
+unfolding digits
+digits-below zero k n l = omega arith
+digits-below (suc j) zero n l = grind (arith, nat_tests)
+digits-below (suc j) (suc k) n l =
+    grind (arith, nat_tests, length-append (digits j (n / 10)) (digit (n % 10) ∷ []), less (suc k) n, digits-below j k (n / 10))
 
 -- a number below 10 ^ k has no more than k digits
-pub decimal-length : (k n : ℕ) → suc k ≤ digits_most → n < 10 ^ suc k → length (decimal n) ≤ suc k
+pub decimal-length : (k n : ℕ) → n < 10 ^ suc k → length (decimal n) ≤ suc k
 unfolding decimal
-decimal-length k n most l =
-    let e : digits_most - suc k + suc k ≡ digits_most = omega arith in
-    omega
-    (arith, ap (λ (m : ℕ). length (digits m n)) e, ap length (digits_same (digits_most - suc k) k n l), digits-length (suc k) n)
+decimal-length k n l = digits-below digits_most k n l
 
 pub decimal-most : (n : ℕ) → length (decimal n) ≤ digits_most
 unfolding decimal

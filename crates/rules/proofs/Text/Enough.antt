@@ -5,6 +5,7 @@ use mathlib.Core.List.{List, [], ◌∷◌, ◌++◌}
 use Prim.Native.Nat.{ℕ, zero, suc, ◌+◌, ◌*◌, ◌^◌, ◌≤◌, ◌<◌}
 use native.Mathlib.Omega.{arith}
 use lib.ListN.{length, length-append}
+use Rattle.std.proofs.lemmas.Grind.{common_steps}
 use Rattle.bits.proofs.Laws.{field_lt}
 use Rattle.rules.specs.Words.{gathered}
 use Rattle.rules.specs.Numbers.{deadline_bits, sheet_longest, text_enough}
@@ -21,38 +22,20 @@ two : (w : List ℕ) (a b : ℕ)
     → length (line w (a ∷ b ∷ [])) ≡ length w + length (decimal a) + length (decimal b) + 3
 unfolding line spaced
 two w a b =
-    omega (
-      arith,
-      length-append (w ++ (32 ∷ decimal a ++ (32 ∷ decimal b ++ []))) (10 ∷ []),
-      length-append w (32 ∷ decimal a ++ (32 ∷ decimal b ++ [])),
-      length-append (decimal a) (32 ∷ decimal b ++ []),
-      length-append (decimal b) [],
-    )
+    grind (arith, common_steps)
 
 three : (w : List ℕ) (a b c : ℕ)
     → length (line w (a ∷ b ∷ c ∷ [])) ≡ length w + length (decimal a) + length (decimal b) + length (decimal c) + 4
 unfolding line spaced
 three w a b c =
-    omega (
-      arith,
-      length-append (w ++ (32 ∷ decimal a ++ (32 ∷ decimal b ++ (32 ∷ decimal c ++ [])))) (10 ∷ []),
-      length-append w (32 ∷ decimal a ++ (32 ∷ decimal b ++ (32 ∷ decimal c ++ []))),
-      length-append (decimal a) (32 ∷ decimal b ++ (32 ∷ decimal c ++ [])),
-      length-append (decimal b) (32 ∷ decimal c ++ []),
-      length-append (decimal c) [],
-    )
+    grind (arith, common_steps)
 
 lines-most : (w : List ℕ) (first second : ℕ → ℕ) (most n : ℕ)
     → ((i : ℕ) → i < n → length (line w (i ∷ first i ∷ second i ∷ [])) ≤ most) → length (lines w first second n) ≤ n * most
 unfolding lines gathered
 lines-most w first second most zero h = omega arith
 lines-most w first second most (suc n) h =
-    omega (
-      arith,
-      length-append (lines w first second n) (line w (n ∷ first n ∷ second n ∷ [])),
-      h n (omega arith),
-      lines-most w first second most n (λ i l. h i (omega (arith, l))),
-    )
+    grind (arith, common_steps, h n, lines-most w first second most n (λ i l. h i (omega (arith, l))))
 
 module _ (s : List ℕ) (lent : ℕ) (accepted : Accepted s lent) where
   abbrev t : View
@@ -67,9 +50,9 @@ module _ (s : List ℕ) (lent : ℕ) (accepted : Accepted s lent) where
       omega (
         arith,
         three (word "link") w (backlog t w) (delay t w),
-        decimal-length 1 w (omega arith) (omega (arith, accepted.sound.wires_at_most)),
-        decimal-length 7 (backlog t w) (omega arith) (omega (arith, fits.backlog_fits w l)),
-        decimal-length 7 (delay t w) (omega arith) (omega (arith, fits.delay_fits w l)),
+        decimal-length 1 w (omega (arith, accepted.sound.wires_at_most)),
+        decimal-length 7 (backlog t w) (omega (arith, fits.backlog_fits w l)),
+        decimal-length 7 (delay t w) (omega (arith, fits.delay_fits w l)),
       )
 
   deadline-small : (k : ℕ) → t.deadline k < 2 ^ deadline_bits
@@ -82,9 +65,9 @@ module _ (s : List ℕ) (lent : ℕ) (accepted : Accepted s lent) where
       omega (
         arith,
         three (word "channel") k (end_to_end t k) (t.deadline k),
-        decimal-length 2 k (omega arith) (omega (arith, accepted.sound.channels_at_most)),
-        decimal-length 7 (end_to_end t k) (omega arith) (omega (arith, accepted.bounded.ends k l, deadline-small k)),
-        decimal-length 7 (t.deadline k) (omega arith) (omega (arith, deadline-small k)),
+        decimal-length 2 k (omega (arith, accepted.sound.channels_at_most)),
+        decimal-length 7 (end_to_end t k) (omega (arith, accepted.bounded.ends k l, deadline-small k)),
+        decimal-length 7 (t.deadline k) (omega (arith, deadline-small k)),
       )
 
   accepted-most : length (accepted_text t) ≤ text_enough
@@ -98,8 +81,8 @@ module _ (s : List ℕ) (lent : ℕ) (accepted : Accepted s lent) where
         length-append (head ++ links) channels,
         length-append head links,
         two (word "accepted") t.wires t.channels,
-        decimal-length 1 t.wires (omega arith) (omega (arith, accepted.sound.wires_at_most)),
-        decimal-length 2 t.channels (omega arith) (omega (arith, accepted.sound.channels_at_most)),
+        decimal-length 1 t.wires (omega (arith, accepted.sound.wires_at_most)),
+        decimal-length 2 t.channels (omega (arith, accepted.sound.channels_at_most)),
         lines-most (word "link") (backlog t) (delay t) 26 t.wires wire-line,
         lines-most (word "channel") (end_to_end t) t.deadline 30 t.channels channel-line,
         accepted.sound.wires_at_most,

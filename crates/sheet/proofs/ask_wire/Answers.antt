@@ -1,44 +1,38 @@
-use Rattle.std.proofs.Common.{◌≡◌, ◌+◌, sym, arith}
+use Rattle.std.proofs.Common.{◌≡◌, ◌+◌, refl, sym, arith}
+use Rattle.std.proofs.lemmas.Result.{err_from_is_err_and}
 use Rattle.bits.specs.Field.{field}
 use Rattle.bits.proofs.Laws.{number_at}
 use Rattle.rules.specs.Numbers.{backlog_bits, delay_bits}
-use Rattle.rules.specs.Sheet.{figures_at, end_at}
-use Rattle.rules.proofs.Sheet.Replies.{fault-none, ask-wire-fault, ask-wire-none, ask-wire-some}
+use Rattle.rules.specs.Replies.{test}
+use Rattle.rules.specs.Sheet.{figures_at, end_at, ask_wire}
+use Rattle.rules.proofs.Sheet.Replies.{fault-none, ask-wire-none, ask-wire-some}
 use Rattle.sheet.proofs.ask_wire.Goals as goal
 
-pub returns-then-number-ne0 : goal.returns-then-number-ne0
-returns-then-number-ne0 c =
-    let a = c.args in
-    sym (ask-wire-fault a.sheet.now c.fault-number.result c.fault-number.ensures a.wire (omega arith))
+pub returns-in_err-counts : goal.returns-in_err-counts
+unfolding ask_wire
+returns-in_err-counts c =
+    let p = err_from_is_err_and c.from_residual.result c.from_residual.ensures.1 in
+    rw (p.1, p.2) (sym (c.in_err-counts.ensures.tests _))
 
-pub counts_of-n-requires : goal.counts_of-n-requires
-counts_of-n-requires c =
-    let p = fault-none c.args.sheet.now c.fault-number.result c.fault-number.ensures (omega arith) in
-    p.counted.two_bytes
-
-pub returns-then-n-wire : goal.returns-then-n-wire
-returns-then-n-wire c =
+pub returns-then-counts-wire : goal.returns-then-counts-wire
+unfolding test
+returns-then-counts-wire c =
     let a = c.args in
-    let p = fault-none a.sheet.now c.fault-number.result c.fault-number.ensures (omega arith) in
+    let n = c.in_ok-counts.ensures in
+    let p = fault-none a.sheet.now 0 n.tests refl in
     sym (ask-wire-none a.sheet.now p a.wire (omega arith))
-
-pub figures_at-at-requires : goal.figures_at-at-requires
-figures_at-at-requires c =
-    let p = fault-none c.args.sheet.now c.fault-number.result c.fault-number.ensures (omega arith) in
-    omega (arith, p.counted)
 
 pub overflow_add-next : goal.overflow_add-next
 unfolding figures_at
-overflow_add-next c =
-    let p = fault-none c.args.sheet.now c.fault-number.result c.fault-number.ensures (omega arith) in
-    omega (arith, p.counted)
+overflow_add-next c = omega arith
 
 pub returns : goal.returns
-unfolding figures_at end_at
+unfolding test figures_at end_at
 returns c =
     let a = c.args in
     let s = a.sheet.now in
-    let p = fault-none s c.fault-number.result c.fault-number.ensures (omega arith) in
+    let n = c.in_ok-counts.ensures in
+    let p = fault-none s 0 n.tests refl in
     let at = c.figures_at-at.result in
     let backlog : c.number-backlog.result ≡ field s at backlog_bits
     = number_at s at backlog_bits (omega arith) (omega (arith, p)) c.number-backlog.ensures in

@@ -14,5 +14,5 @@ loop-k-preserved c =
     let a = c.args in
     let k = c.loop-k.k in
     c.write.ensures.s_after
-    ∙ channel-put a.sheet.now c.loop-k.sheet c.end_at.result a.n (entries a.figures.end) k c.loop-k.invariant c.end_at.ensures
-    (omega arith) (c.requires.end_fits k (omega arith))
+    ∙ channel-put a.sheet.now c.loop-k.sheet c.end_at.result a.counts.wires (entries a.end.now) k c.loop-k.invariant
+    c.end_at.ensures (omega arith) (c.requires.end_fits k (omega arith))

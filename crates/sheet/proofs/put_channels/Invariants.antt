@@ -5,4 +5,4 @@ use Rattle.rules.specs.Sheet.{with_channels}
 use Rattle.sheet.proofs.put_channels.Given as goal
 
 abbrev pub invariant-loop-k : goal.invariant-loop-k
-invariant-loop-k l = l.sheet ≡ with_channels l.n (entries l.end) l.k l.fn.sheet
+invariant-loop-k l = l.sheet ≡ with_channels l.counts.wires (entries l.end) l.k l.fn.sheet

@@ -1,61 +1,39 @@
 -- The buffer is filled, and where all fits its first bytes are made the sheet.
-use Rattle.std.proofs.Common.{length, ◌∙◌, ◌≤◌, sym, arith}
-use lib.Seq.{length-take-le}
+use Rattle.std.proofs.Common.{ℕ, List, ◌++◌, length, drop, replicate, ◌≡◌, ◌∙◌, ◌≤◌, ◌&&◌, true, false, sym, arith}
+use Rattle.std.proofs.lemmas.List.{drop-replicate}
 use borrow.Author.Tests.{le-leb}
-use Rattle.rules.specs.Words.{entries}
-use Rattle.rules.specs.Sheet.{figures_at, end_at, sheet_length}
-use Rattle.rules.proofs.Sheet.Fitting.{true-fits}
-use Rattle.rules.proofs.Sheet.Putting.{sheet-put}
+use Rattle.rules.specs.declared.Figures.{Figures}
+use Rattle.rules.specs.Words.{between}
+use Rattle.rules.specs.Numbers.{wires_most, channels_most}
+use Rattle.rules.specs.Sheet.{fits, sheet_length, wrote_sheet}
+use Rattle.sheet.specs.Writing.{sheet_for}
 use Rattle.sheet.proofs.write.Goals as goal
 
-pub sheet_length-length-requires : goal.sheet_length-length-requires
-sheet_length-length-requires c =
-    let a = c.args in
-    let all = true-fits a.wires a.channels a.figures (sym c.fit.ensures ∙ c.if-not-fit.false) in
-    (all.wires_at_most, all.channels_at_most)
+module _ (n m : ℕ) (f : Figures) where
+  uncounted : false ≡ between 1 n wires_most && between 1 m channels_most → fits n m f ≡ false
+  unfolding fits
+  uncounted e = rw (sym e)
 
-pub put_head-requires : goal.put_head-requires
-unfolding figures_at end_at sheet_length
-put_head-requires c =
-    let a = c.args in
-    let all = true-fits a.wires a.channels a.figures (sym c.fit.ensures ∙ c.if-not-fit.false) in
-    let l = c.sheet_length-length in
-    let part = length-take-le l.result c.fill.new.s (omega arith) in
-    omega (arith, all, part)
+  -- the sheet t put into the first bytes of the filled buffer b
+  wrote : fits n m f ≡ true → (lent r : ℕ) (t b : List ℕ) → r ≡ sheet_length n m → r ≤ lent → b ≡ replicate lent 255
+      → t ≡ sheet_for n m f → t ++ drop r b ≡ wrote_sheet n m f lent
+  wrote h lent r t b er l eb et = rw (et, eb, er, h, le-leb (sheet_length n m) lent (omega arith), drop-replicate)
 
-pub put_wires-requires : goal.put_wires-requires
-unfolding figures_at end_at sheet_length
-put_wires-requires c =
+pub returns-in_err-counts-clause-value : goal.returns-in_err-counts-clause-value
+returns-in_err-counts-clause-value c =
     let a = c.args in
-    let all = true-fits a.wires a.channels a.figures (sym c.fit.ensures ∙ c.if-not-fit.false) in
-    let l = c.sheet_length-length in
-    let part = length-take-le l.result c.fill.new.s (omega arith) in
-    record {
-      inside = (all.wires_at_most, omega (arith, part));
-      backlog_fits = all.backlog_fits;
-      delay_fits = all.delay_fits;
-    }
+    rw (c.from_residual.ensures, uncounted a.wires a.channels a.figures.now (c.in_err-counts.ensures {u = tt}).answer)
 
-pub put_channels-requires : goal.put_channels-requires
-unfolding sheet_length
-put_channels-requires c =
+pub returns-in_err-counts-clause-sheet_after : goal.returns-in_err-counts-clause-sheet_after
+returns-in_err-counts-clause-sheet_after c =
     let a = c.args in
-    let all = true-fits a.wires a.channels a.figures (sym c.fit.ensures ∙ c.if-not-fit.false) in
-    let l = c.sheet_length-length in
-    let part = length-take-le l.result c.fill.new.s (omega arith) in
-    record {
-      inside = (all.wires_at_most, all.channels_at_most, omega (arith, part));
-      end_fits = all.end_fits;
-    }
+    rw (uncounted a.wires a.channels a.figures.now (c.in_err-counts.ensures {u = tt}).answer) (c.fill.ensures.after (λ y e. e))
 
 pub returns-clause-sheet_after : goal.returns-clause-sheet_after
 returns-clause-sheet_after c =
     let a = c.args in
-    let x = a.figures in
-    let s = a.sheet.now in
-    let l = c.sheet_length-length in
-    let room : sheet_length a.wires a.channels ≤ length s = omega (arith, l.ensures) in
-    rw (sym c.fit.ensures ∙ c.if-not-fit.false, le-leb _ _ room)
-    (sheet-put a.wires a.channels (entries x.backlog) (entries x.delay) (entries x.end) l.result s c.fill.new.s c.fill-2.new.s
-    c.put_head.new.sheet c.put_wires.new.sheet c.put_channels.new.sheet l.ensures (omega arith)
-    c.fill.ensures c.fill-2.ensures c.put_head.ensures c.put_wires.ensures c.put_channels.ensures)
+    let n = c.in_ok-counts.counts in
+    let is = (c.in_ok-counts.ensures {u = tt}).counts in
+    rw (← is.0, ← is.1)
+    (wrote n.wires n.channels a.figures.now (sym c.fit.ensures ∙ c.if-not-fit.false) (length a.sheet.now) c.length-length.result
+    c.put.new.sheet c.fill.new.self c.length-length.ensures (omega arith) (c.fill.ensures.after (λ y e. e)) c.put.ensures)

@@ -5,6 +5,8 @@ use Rattle.bits.proofs.Laws.{number_at}
 use Rattle.rules.specs.Table.{end_of, filling_of}
 use Rattle.rules.proofs.Tables.Search.{filling_is, filling_long, filling_not_0, filling_passes}
 use Rattle.table.proofs.filling_of.Goals as goal
+use Rattle.table.proofs.filling_of.Goals.{then-div_ceil-s-via-then-div_ceil-s}
+use Rattle.table.proofs.filling_of.Goals.{then-div_ceil-s-via-else-div_ceil-s+then-number-ne0}
 
 filled :
     (s : List ℕ) (end : ℕ) {n : ℕ} → n ≡ number_of (taken_of s end (8 * length s - end)) → end ≡ end_of s → end ≤ 8 * length s →
@@ -12,13 +14,15 @@ filled :
 filled s end told is some near =
     filling_is s end (8 * length s - end) (number_at s _ (8 * length s - end) (omega arith) (omega arith) told) is (omega arith)
 
-pub returns-then-end-s : goal.returns-then-end-s
-returns-then-end-s c = filling_long c.args.s.now (omega (arith, c.requires.end_value))
-
-pub returns-then-number-ne0 : goal.returns-then-number-ne0
-returns-then-number-ne0 c =
-    filling_not_0 c.args.s.now (λ e. c.if-number-ne0.true
-    (filled c.args.s.now c.args.end c.number.ensures c.requires.end_value (omega arith) (omega arith) ∙ e))
+pub returns-then-div_ceil-s : goal.returns-then-div_ceil-s
+returns-then-div_ceil-s c =
+    let s = c.args.s.now in
+    elim c.then-div_ceil-s.branch [
+      | then-div_ceil-s-via-then-div_ceil-s w ↦ filling_long s (omega (arith, c.requires.end_value))
+      | then-div_ceil-s-via-else-div_ceil-s+then-number-ne0 w ↦
+          filling_not_0 s (λ e. w.if-number-ne0.true
+          (filled s c.args.end w.number.ensures c.requires.end_value (omega arith) (omega arith) ∙ e))
+    ]
 
 pub returns : goal.returns
 returns c =

@@ -1,20 +1,21 @@
 -- After each stage that passes, the reading is what the stages after it give.
 use Rattle.std.proofs.Common.{ℕ, List, [], ◌≡◌, ◌∙◌, refl, sym, ap, ap₂}
-use Rattle.rules.specs.declared.Reading.{Reading}
-use Rattle.rules.specs.declared.Reading.TheVariants as answer
-use Rattle.rules.specs.Replies.{Reply, granted, each, after, IfRead}
-use Rattle.rules.specs.Table.{wires_of, channels_of, channel_at, end_of}
+use Rattle.std.proofs.Math.ListN.{replicate}
+use Rattle.std.specs.Prelude.{Result, IsErrAnd}
+use Rattle.std.proofs.lemmas.Result.{err_from_is_err_and}
+use Rattle.rules.specs.declared.Refusal.{Refusal}
+use Rattle.rules.specs.declared.Wire.{Wire}
+use Rattle.rules.specs.declared.Channel.{Channel}
+use Rattle.rules.specs.declared.Table.{Table}
+use Rattle.rules.specs.Numbers.{wires_most, channels_most}
+use Rattle.rules.specs.Replies.{Reply, granted, each, refusal_reply, reading_reply}
+use Rattle.rules.specs.Table.{view_of, wires_of, channels_of, channel_at, end_of}
 use Rattle.rules.specs.Reading.{head_tests, wire_tests, channel_tests, filling_tests, reading_tests, reading}
-use Rattle.rules.proofs.Answers.{refused-by, passed_by, read_of}
+use Rattle.rules.specs.Decoded.{column, no_wire, wire_of, no_channel, channel_of, table_of, no_table}
+use Rattle.rules.proofs.Tests.{Through}
 use Rattle.table.specs.declared.Head.{Head}
-use Rattle.table.specs.declared.Wires.{Wires}
-use Rattle.table.specs.declared.Channels.{Channels}
-use Rattle.table.specs.Stages.{HeadRead, WiresRead, ChannelsRead}
-use Rattle.table.proofs.Answers.{left-refused, left-granted}
+use Rattle.table.specs.Stages.{HeadRead, ChannelsEnd}
 use Rattle.table.proofs.read.Goals as goal
-
-abbrev same : Reply → Reply
-same rest = rest
 
 -- the tests of n wires and m channels, and of the filling
 abbrev wires-on : List ℕ → ℕ → ℕ → Reply
@@ -24,136 +25,104 @@ start : (s : List ℕ) → reading s ≡ head_tests s (wires-on s (wires_of s) (
 unfolding reading reading_tests
 start s = refl
 
-abbrev Heads : List ℕ → Head → Type 0
-Heads s h = ((rest : Reply) → head_tests s rest ≡ after h.answer rest) × IfRead h.answer (HeadRead s h)
+-- at the exit of a `?`
+refuses : (s : List ℕ) (a : Result Table Refusal) (r : Refusal) → IsErrAnd a (λ e. e ≡ r) → reading s ≡ refusal_reply r
+    → reading_reply a ≡ reading s
+refuses s a r h e =
+    let y = err_from_is_err_and a h in
+    rw (y.1, y.2) (sym e)
 
-abbrev Wired : List ℕ → ℕ → Wires → Type 0
-Wired s n w = ((rest : Reply) → each (wire_tests s) 0 n rest ≡ after w.answer rest) × IfRead w.answer (WiresRead s n w)
+module _ (s : List ℕ) (h : Head) (told : HeadRead s h) (headed : Through (head_tests s)) where
+  after-head : reading s ≡ wires-on s h.wires h.channels
+  after-head = start s ∙ headed _ ∙ ap₂ (wires-on s) (sym told.wires) (sym told.channels)
 
-abbrev Searched : List ℕ → ℕ → Channels → Type 0
-Searched s m k =
-    ((rest : Reply) → each (channel_tests s) 0 m rest ≡ after k.answer rest) × IfRead k.answer (ChannelsRead s m k)
+  module _ (wired : Through (each (wire_tests s) 0 h.wires)) where
+    after-wires : reading s ≡ each (channel_tests s) 0 h.channels (filling_tests s (granted []))
+    after-wires = after-head ∙ wired _
 
-module _ (s : List ℕ) (h : Head) (told : Heads s h) where
-  head-stops : (n p : ℕ) → h.answer ≡ answer.Refused n p → reading s ≡ Rattle.rules.specs.Replies.refused n p
-  head-stops n p e = start s ∙ refused-by (head_tests s) same _ told.0 n p e _
+    module _ (searched : Through (each (channel_tests s) 0 h.channels)) where
+      after-channels : reading s ≡ filling_tests s (granted [])
+      after-channels = after-wires ∙ searched _
 
-  module _ (is : h.answer ≡ answer.Read) where
-    head_read : HeadRead s h
-    head_read = read_of _ _ is told.1
+module _ (s : List ℕ) (h : Head) (told : HeadRead s h) where
+  end_is : (end : ℕ) → ChannelsEnd s h.channels end → end ≡ end_of s
+  unfolding end_of
+  end_is end read = read.told ∙ ap (channel_at s) told.channels
 
-    after-head : reading s ≡ wires-on s h.wires h.channels
-    after-head =
-        start s ∙ passed_by (head_tests s) same _ told.0 is _ ∙ ap₂ (wires-on s) (sym head_read.wires) (sym head_read.channels)
+  table : (wire : List Wire) (channel : List Channel) → wire ≡ column no_wire wires_most h.wires (wire_of (view_of s))
+      → channel ≡ column no_channel channels_most h.channels (channel_of (view_of s))
+      → record { hyper = h.hyper; wires = h.wires; channels = h.channels; wire = wire; channel = channel }
+      ≡ table_of (view_of s)
+  unfolding table_of
+  table wire channel wired searched =
+      λ i. record {
+        hyper = told.hyper i;
+        wires = told.wires i;
+        channels = told.channels i;
+        wire = (wired ∙ ap (λ (n : ℕ). column no_wire wires_most n (wire_of (view_of s))) told.wires) i;
+        channel = (searched ∙ ap (λ (m : ℕ). column no_channel channels_most m (channel_of (view_of s))) told.channels) i;
+      }
 
-    module _ (w : Wires) (wired : Wired s h.wires w) where
-      wires-stop : (n p : ℕ) → w.answer ≡ answer.Refused n p → reading s ≡ Rattle.rules.specs.Replies.refused n p
-      wires-stop n p e = after-head ∙ refused-by (each (wire_tests s) 0 h.wires) same _ wired.0 n p e _
+-- of a table of which nothing is filled yet
+module _ (t : Table) (e : t ≡ no_table) where
+  no-wires : t.wire ≡ replicate wires_most no_wire
+  unfolding no_table
+  no-wires = ap (λ (x : Table). x.wire) e
 
-      module _ (passed : w.answer ≡ answer.Read) where
-        wires_read : WiresRead s h.wires w
-        wires_read = read_of _ _ passed wired.1
+  no-channels : t.channel ≡ replicate channels_most no_channel
+  unfolding no_table
+  no-channels = ap (λ (x : Table). x.channel) e
 
-        after-wires : reading s ≡ each (channel_tests s) 0 h.channels (filling_tests s (granted []))
-        after-wires = after-head ∙ passed_by (each (wire_tests s) 0 h.wires) same _ wired.0 passed _
-
-        module _ (k : Channels) (searched : Searched s h.channels k) where
-          channels-stop : (n p : ℕ) → k.answer ≡ answer.Refused n p → reading s ≡ Rattle.rules.specs.Replies.refused n p
-          channels-stop n p e =
-              after-wires ∙ refused-by (each (channel_tests s) 0 h.channels) same _ searched.0 n p e _
-
-          module _ (through : k.answer ≡ answer.Read) where
-            channels_read : ChannelsRead s h.channels k
-            channels_read = read_of _ _ through searched.1
-
-            after-channels : reading s ≡ filling_tests s (granted [])
-            after-channels =
-                after-wires ∙ passed_by (each (channel_tests s) 0 h.channels) same _ searched.0 through _
-
-            end_is : k.end ≡ end_of s
-            unfolding end_of
-            end_is = channels_read.end ∙ ap (channel_at s) head_read.channels
-
-            module _ (f : Reading) (filled : (rest : Reply) → filling_tests s rest ≡ after f rest) where
-              filling-stops : (n p : ℕ) → f ≡ answer.Refused n p → reading s ≡ Rattle.rules.specs.Replies.refused n p
-              filling-stops n p e = after-channels ∙ refused-by (filling_tests s) same _ filled n p e _
-
-              all-passed : f ≡ answer.Read → reading s ≡ granted []
-              all-passed e = after-channels ∙ passed_by (filling_tests s) same _ filled e _
-
-pub returns-in-Refused : goal.returns-in-Refused
-returns-in-Refused c =
+pub returns-in_err-head-clause-answer_value : goal.returns-in_err-head-clause-answer_value
+returns-in_err-head-clause-answer_value c =
     let s = c.args.s.now in
-    let h = c.head_of-head.result in
-    let headed : Heads s h = (c.head_of-head.ensures.rest_value, c.head_of-head.ensures.if_read) in
-    let left =
-    left-refused s c.in-Refused.number c.in-Refused.place c.refused.result
-    (head-stops s h headed _ _ c.in-Refused.is) c.refused.ensures in
-    record { answer_value = left.0; table_value = left.1 }
+    refuses s c.from_residual.result c.in_err-head.field-0.0 c.from_residual.ensures.1
+    (start s ∙ c.in_err-head.ensures.answered _)
 
-pub returns-in-Refused-answer : goal.returns-in-Refused-answer
-returns-in-Refused-answer c =
-    let s = c.args.s.now in
-    let h = c.head_of-head.result in
-    let headed : Heads s h = (c.head_of-head.ensures.rest_value, c.head_of-head.ensures.if_read) in
-    let w = c.wires_of-wires.result in
-    let wired : Wired s h.wires w = (c.wires_of-wires.ensures.rest_value, c.wires_of-wires.ensures.if_read) in
-    let left =
-    left-refused s c.in-Refused-answer.number c.in-Refused-answer.place c.refused-in-Refused-answer.result
-    (wires-stop s h headed c.in_default.is w wired _ _ c.in-Refused-answer.is) c.refused-in-Refused-answer.ensures in
-    record { answer_value = left.0; table_value = left.1 }
+pub wires_of-requires-clause-none : goal.wires_of-requires-clause-none
+wires_of-requires-clause-none c = no-wires c.none-table.result c.none-table.ensures
 
-pub returns-in-Refused-answer-2 : goal.returns-in-Refused-answer-2
-returns-in-Refused-answer-2 c =
+pub returns-in_err-wires_of-clause-answer_value : goal.returns-in_err-wires_of-clause-answer_value
+returns-in_err-wires_of-clause-answer_value c =
     let s = c.args.s.now in
-    let h = c.head_of-head.result in
-    let headed : Heads s h = (c.head_of-head.ensures.rest_value, c.head_of-head.ensures.if_read) in
-    let w = c.wires_of-wires.result in
-    let wired : Wired s h.wires w = (c.wires_of-wires.ensures.rest_value, c.wires_of-wires.ensures.if_read) in
-    let k = c.channels_of-channels.result in
-    let searched : Searched s h.channels k = (c.channels_of-channels.ensures.rest_value, c.channels_of-channels.ensures.if_read) in
-    let left =
-    left-refused s c.in-Refused-answer-2.number c.in-Refused-answer-2.place c.refused-in-Refused-answer-2.result
-    (channels-stop s h headed c.in_default.is w wired c.in_default-answer.is k searched _ _ c.in-Refused-answer-2.is) c.refused-in-Refused-answer-2.ensures in
-    record { answer_value = left.0; table_value = left.1 }
+    let exit = c.from_residual-in_err-wires_of in
+    let head = c.in_ok-head.ensures in
+    refuses s exit.result c.in_err-wires_of.field-0.0 exit.ensures.1
+    (after-head s c.in_ok-head.head head.told head.answered ∙ c.in_err-wires_of.ensures.answered _)
+
+pub channels_of-requires-clause-none : goal.channels_of-requires-clause-none
+channels_of-requires-clause-none c = no-channels c.none-table.result c.none-table.ensures
+
+pub returns-in_err-end-clause-answer_value : goal.returns-in_err-end-clause-answer_value
+returns-in_err-end-clause-answer_value c =
+    let s = c.args.s.now in
+    let exit = c.from_residual-in_err-end in
+    let head = c.in_ok-head.ensures in
+    refuses s exit.result c.in_err-end.field-0.0 exit.ensures.1
+    (after-wires s c.in_ok-head.head head.told head.answered c.in_ok-wires_of.ensures.answered ∙ c.in_err-end.ensures.answered _)
 
 pub filling_of-requires-clause-end_value : goal.filling_of-requires-clause-end_value
 filling_of-requires-clause-end_value c =
-    let s = c.args.s.now in
-    let h = c.head_of-head.result in
-    let headed : Heads s h = (c.head_of-head.ensures.rest_value, c.head_of-head.ensures.if_read) in
-    let w = c.wires_of-wires.result in
-    let wired : Wired s h.wires w = (c.wires_of-wires.ensures.rest_value, c.wires_of-wires.ensures.if_read) in
-    let k = c.channels_of-channels.result in
-    let searched : Searched s h.channels k = (c.channels_of-channels.ensures.rest_value, c.channels_of-channels.ensures.if_read) in
-    end_is s h headed c.in_default.is w wired c.in_default-answer.is k searched c.in_default-answer-2.is
+    end_is c.args.s.now c.in_ok-head.head c.in_ok-head.ensures.told c.in_ok-end.end c.in_ok-end.ensures.end
 
-pub returns-in-Refused-filling_of : goal.returns-in-Refused-filling_of
-returns-in-Refused-filling_of c =
+pub returns-in_err-filling_of-clause-answer_value : goal.returns-in_err-filling_of-clause-answer_value
+returns-in_err-filling_of-clause-answer_value c =
     let s = c.args.s.now in
-    let h = c.head_of-head.result in
-    let headed : Heads s h = (c.head_of-head.ensures.rest_value, c.head_of-head.ensures.if_read) in
-    let w = c.wires_of-wires.result in
-    let wired : Wired s h.wires w = (c.wires_of-wires.ensures.rest_value, c.wires_of-wires.ensures.if_read) in
-    let k = c.channels_of-channels.result in
-    let searched : Searched s h.channels k = (c.channels_of-channels.ensures.rest_value, c.channels_of-channels.ensures.if_read) in
-    let left =
-    left-refused s c.in-Refused-filling_of.number c.in-Refused-filling_of.place c.refused-in-Refused-filling_of.result
-    (filling-stops s h headed c.in_default.is w wired c.in_default-answer.is k searched c.in_default-answer-2.is c.filling_of.result c.filling_of.ensures _ _ c.in-Refused-filling_of.is) c.refused-in-Refused-filling_of.ensures in
-    record { answer_value = left.0; table_value = left.1 }
+    let exit = c.from_residual-in_err-filling_of in
+    let head = c.in_ok-head.ensures in
+    refuses s exit.result c.in_err-filling_of.field-0.0 exit.ensures.1
+    (after-channels s c.in_ok-head.head head.told head.answered c.in_ok-wires_of.ensures.answered c.in_ok-end.ensures.answered
+    ∙ c.in_err-filling_of.ensures _)
 
-pub returns : goal.returns
-returns c =
+pub returns-clause-answer_value : goal.returns-clause-answer_value
+returns-clause-answer_value c =
     let s = c.args.s.now in
-    let h = c.head_of-head.result in
-    let headed : Heads s h = (c.head_of-head.ensures.rest_value, c.head_of-head.ensures.if_read) in
-    let w = c.wires_of-wires.result in
-    let wired : Wired s h.wires w = (c.wires_of-wires.ensures.rest_value, c.wires_of-wires.ensures.if_read) in
-    let k = c.channels_of-channels.result in
-    let searched : Searched s h.channels k = (c.channels_of-channels.ensures.rest_value, c.channels_of-channels.ensures.if_read) in
-    let left =
-    left-granted s h w k (head_read s h headed c.in_default.is) (wires_read s h headed c.in_default.is w wired c.in_default-answer.is)
-    (channels_read s h headed c.in_default.is w wired c.in_default-answer.is k searched c.in_default-answer-2.is)
-    (all-passed s h headed c.in_default.is w wired c.in_default-answer.is k searched c.in_default-answer-2.is c.filling_of.result c.filling_of.ensures c.in_default-filling_of.is)
-    c.whole.result c.whole.ensures in
-    record { answer_value = left.0; table_value = left.1 }
+    let head = c.in_ok-head.ensures in
+    sym
+    (after-channels s c.in_ok-head.head head.told head.answered c.in_ok-wires_of.ensures.answered c.in_ok-end.ensures.answered
+    ∙ c.in_ok-filling_of.ensures _)
+
+pub returns-clause-table_value : goal.returns-clause-table_value
+returns-clause-table_value c =
+    table c.args.s.now c.in_ok-head.head c.in_ok-head.ensures.told c.wires_of.new.wires c.channels_of.new.channels
+    c.in_ok-wires_of.ensures.told c.in_ok-end.ensures.told

@@ -1,8 +1,6 @@
 -- The blank, then the digits.
-use Rattle.std.proofs.Common.{◌≡◌, ◌∙◌, [], ◌∷◌, ◌-◌, take, drop, sym, arith}
-use lib.ListN.{length-drop}
-use lib.Seq.{take_all}
-use Rattle.rules.specs.Text.{digits_most, decimal, Put}
+use Rattle.std.proofs.Common.{[], ◌∷◌, sym}
+use Rattle.rules.specs.Text.{decimal, Put}
 use Rattle.rules.proofs.Text.Laid.{put_then, put_as, spaced-one}
 use Rattle.words.proofs.put_number.Goals as goal
 
@@ -11,12 +9,7 @@ returns c =
     let a = c.args in
     let p : Put a.lent.now a.at (32 ∷ []) c.put-blank.result c.put-blank.new.lent =
     record { place = c.put-blank.ensures.value; bytes = c.put-blank.ensures.lent_after } in
-    let from = c.digits-from.result in
-    let digits = drop from c.digits-from.new.row in
-    let whole : take (digits_most - from) digits ≡ digits =
-    take_all (digits_most - from) digits (omega (arith, length-drop from c.digits-from.new.row)) in
     let q : Put c.put-blank.new.lent c.put-blank.result (decimal a.n) c.put.result c.put.new.lent =
-    put_as {v = take (digits_most - from) digits} (whole ∙ c.digits-from.ensures.row_after)
-    (record { place = c.put.ensures.value; bytes = c.put.ensures.lent_after }) in
+    put_as c.digits.ensures (record { place = c.put.ensures.value; bytes = c.put.ensures.lent_after }) in
     let r = put_as (sym (spaced-one a.n)) (put_then p q) in
     record { value = r.place; lent_after = r.bytes }

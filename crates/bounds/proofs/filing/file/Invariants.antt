@@ -1,8 +1,7 @@
--- The channels below c are filed.
-use Rattle.std.proofs.Common.{◌≤◌}
-use Rattle.rules.specs.Numbers.{channels_most}
-use Rattle.bounds.specs.Stages.{FiledTo}
+-- The channels below k are filed.
+use Rattle.rules.specs.Table.{View}
+use Rattle.bounds.specs.Stages.{AsRead, FiledBelow}
 use Rattle.bounds.proofs.filing.file.Given as goal
 
-abbrev pub invariant-loop-c : goal.invariant-loop-c
-invariant-loop-c l = record { most : l.m ≤ channels_most; filed : FiledTo l.table l.c l.list l.count l.load }
+abbrev pub invariant-loop-k : goal.invariant-loop-k
+invariant-loop-k l = (t : View) → AsRead t l.table → FiledBelow t l.k l.under

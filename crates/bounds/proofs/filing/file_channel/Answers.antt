@@ -1,72 +1,94 @@
-use Rattle.std.proofs.Common.{ℕ, List, ◌≡◌, ◌∙◌, ◌+◌, ◌*◌, ◌^◌, ◌<◌, length, get_or, set, sym, subst, arith}
-use Rattle.rules.specs.Numbers.{wires_most, channels_most, hops_most}
-use Rattle.rules.specs.Table.{view_of}
-use Rattle.bounds.specs.Filed.{filed_most}
-use Rattle.bounds.specs.Stages.{Hops}
-use Rattle.bounds.proofs.Hops.{FiledHops, hops-start, hops-end, hop-wire, hop-place, hop-fits, hop-load, hop_filed}
+use Rattle.std.proofs.Common.{ℕ, List, ◌≡◌, ◌∙◌, ◌*◌, ◌^◌, ◌<◌, length, get_or, take, arith}
+use Rattle.std.proofs.lemmas.List.{get_or-take}
+use Rattle.bounds.specs.declared.filing.Filed.{Filed}
+use Rattle.rules.specs.declared.Channel.{Channel}
+use Rattle.rules.specs.Words.{entries}
+use Rattle.rules.specs.Numbers.{wires_most, hops_most}
+use Rattle.rules.specs.Table.{View}
+use Rattle.rules.specs.Bounds.{part}
+use Rattle.rules.proofs.Tables.Columns.{entry_at}
+use Rattle.rules.proofs.Tables.Told.{ChannelTold, channel_told}
+use Rattle.bounds.specs.Stages.{ToFile}
+use Rattle.bounds.proofs.Hops.{hops-start, hops-end, hop-wire, hop-place, hop-load, hop_filed}
+use Rattle.rules.proofs.Bounds.Reach.{hop-below}
+use Rattle.bounds.proofs.Read.{blank, part-fits}
 use Rattle.bounds.proofs.filing.file_channel.Goals as goal
 
--- Hop i of channel k is wire w.
-module _ {s : List ℕ} {k hops part : ℕ} {route : List ℕ} (told : Hops s k hops part route) (i : ℕ) (l : i < hops)
-    {list counts loads : List ℕ} (here : FiledHops (view_of s) k i list counts loads)
-    {w : ℕ} (e : w ≡ get_or route (hops_most * k + i) 0) where
-  short : i < length ((view_of s).route k)
-  short = omega (arith, told.number)
+module _ {t : View} {k : ℕ} {r : Channel} {filed : List Filed} (to : ToFile t k r filed) where
+  told : ChannelTold t k r
+  told = channel_told t k r to.channel
 
-  wire : w ≡ get_or ((view_of s).route k) i 0
-  wire = e ∙ told.wire i l
+  -- the wire of hop i
+  hop : (i d : ℕ) → i < r.hops → get_or r.route i d ≡ get_or (t.route k) i 0
+  hop i d l =
+      entry_at 0 hops_most (length (t.route k)) (entries (t.route k)) r.route told.route
+      (to.sound.hops_at_most k to.less) i d (omega (arith, told.hops))
 
-  most : w < wires_most
-  most = hop-wire (view_of s) k list counts loads told.sound told.less i short here w wire
+  hop_taken : {hops : ℕ} → hops ≡ r.hops → (i d : ℕ) → i < r.hops → get_or (take hops r.route) i d ≡ get_or (t.route k) i 0
+  hop_taken is i d l = rw is (get_or-take r.hops r.route i d l ∙ hop i d l)
 
-  place : get_or counts w 0 < channels_most
-  place = hop-place (view_of s) k list counts loads told.sound told.less i short here w wire
+  -- what it adds to a wire's load
+  adds : {price times : ℕ} → price ≡ r.price → times ≡ r.times → (price * times ≡ part t k) × (price * times < 2 ^ 64)
+  adds p q = rw (p, q) (part-fits t to.sound k r to.less to.channel)
 
-  fits : channels_most * w + get_or counts w 0 < filed_most
-  fits = hop-fits (view_of s) k list counts loads told.sound told.less i short here w wire
+  short : (i : ℕ) → i < r.hops → i < length (t.route k)
+  short i l = omega (arith, told.hops)
 
-  load-fits : get_or loads w 0 + part < 2 ^ 64
-  load-fits =
-      omega (arith, hop-load (view_of s) k list counts loads told.sound told.less i short here w wire, told.share_told)
+  some-hop : 0 < r.hops
+  some-hop = omega (arith, told.hops, to.sound.hops_at_least k to.less)
 
-  next : FiledHops (view_of s) k (i + 1)
-      (set list (channels_most * w + get_or counts w 0) k) (set counts w (get_or counts w 0 + 1)) (set loads w (get_or loads w 0 + part))
-  next =
-      subst
-      (λ (p : ℕ). FiledHops (view_of s) k (i + 1) (set list (channels_most * w + get_or counts w 0) k)
-      (set counts w (get_or counts w 0 + 1)) (set loads w (get_or loads w 0 + p)))
-      (sym told.share_told) (hop_filed (view_of s) k list counts loads told.sound told.less i short here w wire)
+  first_wire : {w : ℕ} → w ≡ get_or (t.route k) 0 0 → w < wires_most
+  first_wire e =
+      omega (arith, e, hop-below t.wires 0 (t.route k) (to.sound.climbs k to.less) (short 0 some-hop), to.sound.wires_at_most)
 
-pub loop-i-init : goal.loop-i-init
-loop-i-init c = hops-start (view_of c.args.table.now) c.args.c _ _ _ c.requires.filed_to
+pub overflow_mul-part : goal.overflow_mul-part
+overflow_mul-part c =
+    omega (arith, (adds c.requires.1 c.from.ensures c.from-2.ensures).1)
 
-pub bounds-count-w : goal.bounds-count-w
-bounds-count-w c = most c.requires.hops c.loop-i.i (omega arith) c.loop-i.invariant c.wide-w.ensures
+pub loop-w-init : goal.loop-w-init
+loop-w-init c = λ t to. hops-start t c.args.k c.args.filed.now to.before
 
-pub bounds-load-w : goal.bounds-load-w
-bounds-load-w c = most c.requires.hops c.loop-i.i (omega arith) c.loop-i.invariant c.wide-w.ensures
+pub bounds-filed-from : goal.bounds-filed-from
+bounds-filed-from c =
+    let t = c.requires.0 in
+    let to = c.requires.1 in
+    let l : c.loop-w.w-index < c.args.channel.now.hops = omega arith in
+    hop-wire t c.args.k c.loop-w.filed to.sound to.less c.loop-w.w-index (short to c.loop-w.w-index l) (c.loop-w.invariant t to)
+    c.from-in-loop-w.result blank (c.from-in-loop-w.ensures ∙ hop_taken to c.from-3.ensures c.loop-w.w-index 0 l)
 
-pub overflow_add-list : goal.overflow_add-list
-overflow_add-list c = omega (arith, fits c.requires.hops c.loop-i.i (omega arith) c.loop-i.invariant c.wide-w.ensures)
+pub add-requires : goal.add-requires
+add-requires c =
+    let t = c.requires.0 in
+    let to = c.requires.1 in
+    let i = c.loop-w.w-index in
+    let l : i < c.args.channel.now.hops = omega arith in
+    let is = c.from-in-loop-w.ensures ∙ hop_taken to c.from-3.ensures i 0 l in
+    let part = adds to c.from.ensures c.from-2.ensures in (
+      hop-place t c.args.k c.loop-w.filed to.sound to.less i (short to i l) (c.loop-w.invariant t to) c.from-in-loop-w.result blank is,
+      omega (
+        arith,
+        part.0,
+        hop-load t c.args.k c.loop-w.filed to.sound to.less i (short to i l) (c.loop-w.invariant t to) c.from-in-loop-w.result blank is,
+      ),
+    )
 
-pub bounds-list-w : goal.bounds-list-w
-bounds-list-w c = fits c.requires.hops c.loop-i.i (omega arith) c.loop-i.invariant c.wide-w.ensures
+pub loop-w-preserved : goal.loop-w-preserved
+loop-w-preserved c = λ t to.
+    (let i = c.loop-w.w-index in
+    let l : i < c.args.channel.now.hops = omega arith in
+    let is = c.from-in-loop-w.ensures ∙ hop_taken to c.from-3.ensures i 0 l in
+    let part = adds to c.from.ensures c.from-2.ensures in
+    rw c.add.ensures
+    (hop_filed t c.args.k c.loop-w.filed to.sound to.less i (short to i l) (c.loop-w.invariant t to) c.from-in-loop-w.result blank is
+    (c.from.result * c.from-2.result) part.0))
 
-pub overflow_add-count : goal.overflow_add-count
-overflow_add-count c = omega (arith, place c.requires.hops c.loop-i.i (omega arith) c.loop-i.invariant c.wide-w.ensures)
-
-pub bounds-count-w-in-loop-i : goal.bounds-count-w-in-loop-i
-bounds-count-w-in-loop-i c = most c.requires.hops c.loop-i.i (omega arith) c.loop-i.invariant c.wide-w.ensures
-
-pub overflow_add-load : goal.overflow_add-load
-overflow_add-load c = omega (arith, load-fits c.requires.hops c.loop-i.i (omega arith) c.loop-i.invariant c.wide-w.ensures)
-
-pub bounds-load-w-in-loop-i : goal.bounds-load-w-in-loop-i
-bounds-load-w-in-loop-i c = most c.requires.hops c.loop-i.i (omega arith) c.loop-i.invariant c.wide-w.ensures
-
-pub loop-i-preserved : goal.loop-i-preserved
-loop-i-preserved c = next c.requires.hops c.loop-i.i (omega arith) c.loop-i.invariant c.wide-w.ensures
+pub bounds-filed-from-2 : goal.bounds-filed-from-2
+bounds-filed-from-2 c =
+    let t = c.requires.0 in
+    let to = c.requires.1 in
+    first_wire to (c.from-4.ensures ∙ hop to 0 0 (some-hop to))
 
 pub returns : goal.returns
-returns c =
-    hops-end (view_of c.args.table.now) c.args.c _ _ _ c.loop-i.i (omega (arith, c.requires.hops.number)) c.loop-i.invariant
+returns c = λ t to.
+    hops-end t c.args.k c.loop-w.filed to.sound to.less c.loop-w.w-index (omega (arith, (told to).hops)) (c.loop-w.invariant t to)
+    c.from-4.result blank (c.from-4.ensures ∙ hop to 0 0 (some-hop to))

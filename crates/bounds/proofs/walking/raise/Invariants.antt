@@ -1,13 +1,7 @@
--- The wire's first j channels are raised.
-use Rattle.rules.specs.Table.{view_of}
-use Rattle.rules.specs.Bounds.{on}
-use Rattle.bounds.specs.Filed.{Raised}
-use Rattle.bounds.proofs.Stretches.{among}
+-- The channels so far are raised.
+use Rattle.std.proofs.Common.{take}
+use Rattle.bounds.specs.Stages.{Raised}
 use Rattle.bounds.proofs.walking.raise.Given as goal
 
-abbrev pub invariant-loop-j : goal.invariant-loop-j
-invariant-loop-j l =
-    record {
-      jitters : Raised (among (on (view_of l.table) l.w) l.j) (view_of l.table).channels l.late l.fn.jitter l.jitter;
-      ends : Raised (among (on (view_of l.table) l.w) l.j) (view_of l.table).channels l.spent l.fn.end l.end;
-    }
+abbrev pub invariant-loop-k : goal.invariant-loop-k
+invariant-loop-k l = Raised (take l.k-index l.channels) l.by l.fn.known l.known

@@ -1,2 +1,0 @@
-pub mod Moving
-pub mod Lineless
