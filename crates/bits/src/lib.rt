@@ -56,7 +56,7 @@ fn serves(s: &[u8], at: usize, width: usize) -> bool
     width <= WIDEST && holds(s, at, width)
 }
 
-// The number in the bytes.
+// The number in the bytes. A loop: `from_be_bytes` takes eight of them, and there may be fewer.
 #[tactic(auto, using(crate::proofs::Laws::no_field, crate::proofs::Laws::few_bytes, crate::proofs::Laws::field_more))]
 fn gather(bytes: &[u8]) -> u64
     requires { length bytes.now ≤ 8 }
@@ -69,6 +69,7 @@ fn gather(bytes: &[u8]) -> u64
     n
 }
 
+// `Around` and the number's width go down one line of calls: a type of bytes, bit and width would be no plainer.
 // The bits of `count` bytes that stand behind a field of them.
 fn behind(count: usize, at: usize, width: usize) -> usize
     requires { Around 0 count at width }
@@ -178,6 +179,7 @@ fn put(s: &mut [u8], at: usize, width: usize, number: u64)
 }
 
 // Writes the number to the width bits from bit at, and says so; where it cannot, the bytes stay as they are.
+// A bool and no Option: its clause `value` is `field_fits`.
 pub fn write(s: &mut [u8], at: usize, width: usize, number: u64) -> bool
     ensures value { result ≡ field_fits s.old at width number }
     ensures s_after { s.new ≡ wrote_field s.old at width number }

@@ -10,6 +10,7 @@ use rules::{Channel, Row, Table};
 
 // Of a wire the channels whose routes have it, in ascending order, of which there are `count`; their load; and whether one of
 // these routes begins with it.
+// There is no heap, so the list is an array with its count beside it.
 #[derive(Clone, Copy)]
 pub(crate) struct Filed {
     list: [u8; Table::CHANNELS_MOST],
@@ -69,6 +70,7 @@ impl Filed {
     }
 }
 
+// k is below 128: `as` loses nothing, and `try_from` would answer an Err that cannot come.
 // Channel k is filed under each wire of its route, which takes on its part of the load; the first of them is marked.
 #[tactic(auto, using(crate::proofs::Read::hops_fit))]
 fn file_channel(k: usize, channel: &Channel, filed: &mut [Filed; Table::WIRES_MOST])
@@ -93,7 +95,7 @@ pub(crate) fn file(table: &Table, under: &mut [Filed; Table::WIRES_MOST])
     }
 }
 
-// A table, and its channels filed under the wires of their routes.
+// A table, and its channels filed under the wires of their routes: beside it, since nothing is filed in what only was read.
 #[derive(Drop)]
 pub(crate) struct Filing<'a> {
     pub(crate) table: &'a Table,

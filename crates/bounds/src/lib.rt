@@ -1,5 +1,6 @@
 // The bounds of a table: tests 12 and 13 after 1 to 11, and the figures of every wire and channel. What was read is not at hand
-// after reading: the contracts of the private functions hold for every view that their table can have been read from.
+// after reading: the contracts of the private functions hold for every view that their table can have been read from. `IsRead`
+// stands in three of them, down one line of calls: a type around a Table that holds it would be no plainer.
 #![tactic(auto)]
 
 mod filing;
@@ -15,6 +16,7 @@ ghost use Rattle.bounds.specs.Stages.{IsRead, AsRead};
 use crate::filing::{Filed, Filing};
 use rules::{Bounded, Figures, Refusal, Table};
 
+// What is filed goes by the wire's number, as in `walk`.
 // 12: the lowest wire that is over rate × H. Its shape is that of test 14 in `judge`; a function for both would be a public one,
 // with an answer for arrays that are no table's.
 #[tactic(auto, using(crate::proofs::Read::wires_fit))]

@@ -10,6 +10,7 @@ ghost use Rattle.judge.specs.Stages.{BoundsOf, is_late, ends_of};
 use rules::{Bounded, Refusal};
 
 // What stands in every byte that is not the sheet's.
+// Private in each of three crates: a shared one would be a public constant of a lower crate.
 const NO_SHEET: u8 = 255;
 
 // The lowest channel whose end-to-end delay is over its deadline.

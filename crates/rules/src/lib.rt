@@ -107,8 +107,8 @@ impl fmt::Display for Refusal {
 
 impl Error for Refusal {}
 
-// Of a wire what a table says of it. As narrow as the fields are: a Table is copied where it is handed on, on a stack that is
-// kept short.
+// Of a wire what a table says of it. Narrow but for the rate: a Table is copied where it is handed on, on a stack that is kept
+// short.
 #[derive(Clone, Copy)]
 pub struct Wire {
     pub rate: u64,
@@ -152,7 +152,8 @@ pub struct Figures {
     pub end: [u64; Table::CHANNELS_MOST],
 }
 
-// What working out the bounds leaves: the table and its figures.
+// What working out the bounds leaves: the table and its figures. They go by the same numbers, and stay two: `sheet::write` takes
+// figures without a table.
 #[derive(Clone, Copy)]
 pub struct Bounded {
     pub table: Table,

@@ -16,7 +16,8 @@ use rules::{Figures, Refusal, Table, WireFigures};
 
 const BYTE_BITS: usize = 8;
 
-// What stands in every byte that is not the sheet's. judge has its own: neither is public.
+// What stands in every byte that is not the sheet's.
+// Private in each of three crates: a shared one would be a public constant of a lower crate.
 const NO_SHEET: u8 = 255;
 
 // The bytes that hold the counts.
@@ -172,6 +173,7 @@ fn put(sheet: &mut [u8], counts: Counts, figures: &Figures)
     put_channels(sheet, counts, &figures.end[..counts.channels]);
 }
 
+// Three parameters and no struct: the clauses are of any counts and figures, in range or not.
 // The sheet of these figures, and 255 in every byte after it; 255 alone, and no length, where something does not fit.
 pub fn write(sheet: &mut [u8], wires: usize, channels: usize, figures: &Figures) -> Option<usize>
     ensures value { result ≡ written_of wires channels figures.now (length sheet.old) }

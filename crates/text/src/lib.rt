@@ -11,8 +11,11 @@ ghost use Rattle.text.specs.Rows.{wires_text, channels_text, bounded_text, verdi
 use rules::{Bounded, Refusal, Table};
 
 // What stands in every byte that is not the text's.
+// Private in each of three crates: a shared one would be a public constant of a lower crate.
 const NO_TEXT: u8 = 255;
 
+// The bounds of the counts and of `at` go down one line of calls, from `verdict` on: a type in between would be no plainer. The
+// place that `words` answers is handed on as it is, one past the end where something does not fit.
 // For each wire a line with its number, backlog and delay.
 // Not one loop with `put_channels`: over an iterator and a closure, it would need a relation to what that yields, and two proofs.
 fn put_wires(lent: &mut [u8], at: usize, bounded: &Bounded) -> usize

@@ -10,6 +10,7 @@ pub(crate) fn rest(s: &[u8]) -> &[u8] {
 }
 
 // The decimal number that s starts with; it ends before a digit that would take it past 64 bits.
+// By hand: std's `parse` takes a whole string, and answers nothing where it does not fit.
 pub(crate) fn number(s: &[u8]) -> u64 {
     let mut n: u64 = 0;
     for byte in s {

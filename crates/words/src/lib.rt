@@ -29,6 +29,7 @@ pub fn put(lent: &mut [u8], at: usize, word: &[u8]) -> usize
 
 // The digits of n, laid at the end of the row.
 // Digits by hand: the clauses here and in `put_number` are `decimal` and `laid`, which say the text of document 01.
+// A digit is below 10, so `as` loses nothing.
 // By the place, where the answer starts: of what goes through `iter_mut().rev()` a proof knows nothing.
 fn digits(n: u64, row: &mut [u8; DIGITS]) -> &[u8]
     ensures { result.now ≡ decimal n }
@@ -44,7 +45,7 @@ fn digits(n: u64, row: &mut [u8; DIGITS]) -> &[u8]
     unreachable!()
 }
 
-// A blank and a number.
+// A blank and a number. The place that `put` answers is handed on as it is, one past the end where something does not fit.
 fn put_number(lent: &mut [u8], at: usize, n: u64) -> usize
     ensures value { result ≡ place_after (length lent.old) at (spaced (n ∷ [])) }
     ensures lent_after { lent.new ≡ laid lent.old at (spaced (n ∷ [])) }
@@ -54,6 +55,7 @@ fn put_number(lent: &mut [u8], at: usize, n: u64) -> usize
     put(lent, blank, digits(n, &mut row))
 }
 
+// `at`'s bound goes down one line of calls: a type of buffer and place would change what `put` and `put_line` take.
 fn put_numbers(lent: &mut [u8], at: usize, numbers: &[u64]) -> usize
     requires { at ≤ suc (length lent.old) }
     ensures value { result ≡ place_after (length lent.old) at (spaced numbers.now) }
