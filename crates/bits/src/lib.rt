@@ -8,7 +8,6 @@ ghost use Rattle.bits.specs.Around.{Around};
 // The widest field that is served.
 pub const WIDEST: usize = 57;
 
-// Callers use std's `usize::from`; it stays, since docs/CONTRACTS.md names it with its wrong programs.
 pub fn wide(x: u8) -> usize
     ensures { result ≡ x }
 {
@@ -36,7 +35,7 @@ pub fn part(n: u64, behind: usize, width: usize) -> u64
     trim(n, behind, width)
 }
 
-// Puts every byte to v. Callers use std's `fill`; it stays for the same reason.
+// Puts every byte to v.
 pub fn fill(s: &mut [u8], v: u8)
     ensures { s.new ≡ replicate (length s.old) v }
 {

@@ -8,7 +8,6 @@ use native.Mathlib.Nat.{div-le_self, mul-div-le}
 use native.Mathlib.Omega.{arith}
 use lib.ListN.{get_or, set, take}
 use Rattle.std.proofs.lemmas.Bool.{cases_Bool}
-use Rattle.std.specs.Int.{div_ceil}
 use Rattle.rules.specs.declared.Wire.{Wire}
 use Rattle.rules.specs.declared.Table.{Table}
 use Rattle.rules.specs.declared.Figures.{Figures}
@@ -29,7 +28,6 @@ use Rattle.rules.proofs.Bounds.Sizes.{part-most, delay-up}
 use Rattle.rules.proofs.Sheet.Fits.{delay-le}
 use Rattle.bounds.specs.Filed.{filed_under, carries, ahead, those, Holds}
 use Rattle.bounds.specs.Stages.{first_of, channel_in, share_in, shares, Shared, Gathers, Spare, Raised, FiledBelow, ToWalk}
-use Rattle.bounds.proofs.Ceil.{up-ceil}
 use Rattle.bounds.proofs.Those.{length-those, total-those, some-those, all-those}
 use Rattle.bounds.proofs.Read.{blank, table-told, wire-less, wire-small, wire-told}
 use Rattle.bounds.proofs.Wires.{Walking, loaded, late, spent, gathered, backlog-is, spare-column, walking_next}
@@ -162,10 +160,9 @@ module _ {t : View} {r : Table} {filed : List Filed} (to : ToWalk t r) (filed-al
           spent-lt : spent t w < 2 ^ 25
           spent-lt = omega (arith, delay-lt, to.read.prop_fits w)
 
-          module _ {wait : ℕ} (waits : wait ≡ div_ceil (burst / r.hyper + held) wire.rate) where
+          module _ {wait : ℕ} (waits : wait ≡ up (burst / r.hyper + held) wire.rate) where
             told-delay : wait ≡ bounds.delay t w
-            told-delay =
-                waits ∙ up-ceil _ wire.rate rate_at_least ∙ ap₂ up told-backlog told.rate ∙ sym (delay-up t w)
+            told-delay = waits ∙ ap₂ up told-backlog told.rate ∙ sym (delay-up t w)
 
             told-late : wait - 1 ≡ late t w
             told-late = omega (arith, told-delay)

@@ -78,10 +78,10 @@ fn file_channel(k: usize, channel: &Channel, filed: &mut [Filed; Table::WIRES_MO
     ensures { (t : View) → ToFile t k channel.now filed.old → FiledBelow t (k + 1) filed.new }
 {
     let part = u64::from(channel.price) * u64::from(channel.times);
-    for w in &channel.route[..usize::from(channel.hops)] {
-        filed[usize::from(*w)].add(k as u8, part);
+    for w in &channel.route[..bits::wide(channel.hops)] {
+        filed[bits::wide(*w)].add(k as u8, part);
     }
-    filed[usize::from(channel.route[0])].first = true;
+    filed[bits::wide(channel.route[0])].first = true;
 }
 
 #[tactic(auto, using(crate::proofs::Read::channels_fit))]

@@ -56,7 +56,7 @@ fn burst(
 {
     let mut sum = 0;
     for k in filed.channels() {
-        let k = usize::from(*k);
+        let k = bits::wide(*k);
         sum += share(price[k], table.channel[k].times, table.hyper, jitter[k]);
     }
     sum
@@ -68,8 +68,16 @@ fn raise(channels: &[u8], by: u64, known: &mut [u64; Table::CHANNELS_MOST])
     ensures { Raised channels.now by known.old known.new }
 {
     for k in channels {
-        known[usize::from(*k)] += by;
+        known[bits::wide(*k)] += by;
     }
+}
+
+// backlog / rate, rounded up
+fn slots(backlog: u64, rate: u64) -> u64
+    requires { 1 ≤ rate }
+    ensures { result ≡ up backlog rate }
+{
+    backlog.div_ceil(rate)
 }
 
 // Wires in ascending order, so that the jitter of each of a wire's channels is known when it is worked out; up to the first
@@ -95,7 +103,7 @@ pub(crate) fn walk(filing: &Filing, figures: &mut Figures) -> Result<(), Refusal
         if u64::from(wire.room) < backlog {
             return Err(Refusal::Room(w));
         }
-        let delay = backlog.div_ceil(wire.rate);
+        let delay = slots(backlog, wire.rate);
         figures.wire[w] = WireFigures { backlog, delay };
         let channels = filed.channels();
         raise(channels, delay.saturating_sub(1), &mut jitter);

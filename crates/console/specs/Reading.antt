@@ -15,10 +15,10 @@ Within (Err _) s = Unit
 
 -- a line lies within the buffer, and has no newline
 abbrev pub LineIn : {E : Type 0} → Result Found E → List ℕ → Type 0
-LineIn (Ok (Line r)) s =
-    (r.start ≤ r.end)
-    × (r.end ≤ length s)
-    × ((k : ℕ) → k < r.end - r.start → get_or s (r.start + k) 0 ≡ 10 → ⊥)
+LineIn (Ok (Line start end)) s =
+    (start ≤ end)
+    × (end ≤ length s)
+    × ((k : ℕ) → k < end - start → get_or s (start + k) 0 ≡ 10 → ⊥)
 LineIn _ s = Unit
 
 -- nothing was read that is not handed out

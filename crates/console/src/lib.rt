@@ -40,11 +40,11 @@ pub fn find(bytes: &[u8], stop: u8) -> usize
 }
 
 // What a turn found.
-#[derive(Clone, Debug, PartialEq, Eq, Drop)]
+#[derive(Clone, Copy, Debug, PartialEq, Eq)]
 pub enum Found {
     // The places of a line in the buffer, without its newline; the last line need not have one. A slice in their place would
-    // go on borrowing the buffer, and `LineIn` could not say what stands there after the call.
-    Line(Range<usize>),
+    // go on borrowing the buffer, and `LineIn` could not say what stands there after the call; a Range would not be Copy.
+    Line { start: usize, end: usize },
     // A line that does not fit the buffer, and is passed over.
     TooLong,
     // Nothing yet.
@@ -83,7 +83,7 @@ impl Lines {
             let found = if self.cut {
                 Found::Nothing
             } else {
-                Found::Line(from..end)
+                Found::Line { start: from, end }
             };
             *self = Lines {
                 from: end + 1,
@@ -95,7 +95,10 @@ impl Lines {
         }
         if self.ended {
             *self = Lines::new();
-            return Ok(Found::Line(from..to));
+            return Ok(Found::Line {
+                start: from,
+                end: to,
+            });
         }
         if self.cut {
             return self.read_on(input, buffer, to..to);

@@ -44,13 +44,14 @@ fn accept(table: &[u8], sheet: &mut [u8]) -> Result<usize, Refusal>
     match &bounds {
         Ok(bounded) => {
             in_time(bounded)?;
-            sheet::write(
+            let length = sheet::write(
                 sheet,
                 bounded.table.wires,
                 bounded.table.channels,
                 &bounded.figures,
             )
-            .ok_or(Refusal::Buffer)
+            .ok_or(Refusal::Buffer)?;
+            Ok(length)
         }
         Err(refusal) => Err(*refusal),
     }
@@ -63,7 +64,7 @@ pub fn judge(table: &[u8], sheet: &mut [u8]) -> Result<usize, Refusal>
 {
     let answer = accept(table, sheet);
     if answer.is_err() {
-        sheet.fill(NO_SHEET);
+        bits::fill(sheet, NO_SHEET);
     }
     answer
 }

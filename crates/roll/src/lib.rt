@@ -27,7 +27,7 @@ fn printable(label: &[u8]) -> bool
 fn end_from(roll: &[u8], at: usize) -> Option<usize>
     ensures { result ≡ then_some (sound_at roll.now at) (behind roll.now at) }
 {
-    let count = usize::from(*roll.get(at)?);
+    let count = bits::wide(*roll.get(at)?);
     if !(1..=LABEL_MOST).contains(&count) {
         return None;
     }
@@ -52,7 +52,7 @@ fn end_of(roll: &[u8], n: usize) -> Option<usize>
 fn count_of(roll: &[u8]) -> Option<usize>
     ensures { result ≡ then_some (sound_roll roll.now) (labels roll.now) }
 {
-    let count = usize::from(*roll.first()?);
+    let count = bits::wide(*roll.first()?);
     if !(1..=Table::CHANNELS_MOST).contains(&count) {
         return None;
     }
@@ -73,7 +73,7 @@ pub fn ask(roll: &[u8], number: u64) -> Result<Stretch, Refusal>
     let at = end_of(roll, number).unwrap();
     Ok(Stretch {
         start: at + 1,
-        length: usize::from(roll[at]),
+        length: bits::wide(roll[at]),
     })
 }
 

@@ -84,10 +84,10 @@ label-one = answer-one (λ label. label.start ∷ label.length ∷ []) (λ x y e
 pub reading-one : (a b : Result (Unit {0}) Refusal) → reading_reply a ≡ reading_reply b → a ≡ b
 reading-one = answer-one (λ a. []) (λ x y e. refl)
 
--- of answers whose value is one, where it is granted
+-- of answers whose value is one, where it is granted: but for that value they are answers as above
 pub granted-one : {A : Type 0} (x : A) (a b : Result A Refusal) → reading_reply a ≡ reading_reply b
     → IfOk a (λ v. v ≡ x) → IfOk b (λ v. v ≡ x) → a ≡ b
 granted-one x (Ok v) (Ok w) e p q = rw (p, q)
-granted-one x (Ok v) (Err s) e p q = cc
-granted-one x (Err r) (Ok w) e p q = cc
-granted-one x (Err r) (Err s) e p q = rw (refusal-one r s e)
+granted-one x (Ok v) (Err s) e p q = let h : Ok tt ≡ Err s = reading-one (Ok tt) (Err s) e in cc h
+granted-one x (Err r) (Ok w) e p q = let h : Err r ≡ Ok tt = reading-one (Err r) (Ok tt) e in cc h
+granted-one x (Err r) (Err s) e p q = let h : r ≡ s = cc (reading-one (Err r) (Err s) e) in rw h

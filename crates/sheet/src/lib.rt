@@ -167,7 +167,7 @@ fn put(sheet: &mut [u8], counts: Counts, figures: &Figures)
     requires whole { length sheet.old ≡ sheet_length counts.wires counts.channels }
     ensures { sheet.new ≡ sheet_for counts.wires counts.channels figures.now }
 {
-    sheet.fill(0);
+    bits::fill(sheet, 0);
     put_head(sheet, counts);
     put_wires(sheet, &figures.wire[..counts.wires]);
     put_channels(sheet, counts, &figures.end[..counts.channels]);
@@ -179,7 +179,7 @@ pub fn write(sheet: &mut [u8], wires: usize, channels: usize, figures: &Figures)
     ensures value { result ≡ written_of wires channels figures.now (length sheet.old) }
     ensures sheet_after { sheet.new ≡ wrote_sheet wires channels figures.now (length sheet.old) }
 {
-    sheet.fill(NO_SHEET);
+    bits::fill(sheet, NO_SHEET);
     let counts = Counts::new(wires, channels)?;
     let length = counts.length();
     if sheet.len() < length || !fit(counts, figures) {

@@ -91,10 +91,10 @@ pub fn write(table: &[u8], lent: &mut [u8]) -> Option<usize>
     ensures value { result ≡ text_written (text table.now) (length lent.old) }
     ensures lent_after { lent.new ≡ text_left (text table.now) (length lent.old) }
 {
-    lent.fill(NO_TEXT);
+    bits::fill(lent, NO_TEXT);
     let end = put_text(table, lent);
     if end > lent.len() {
-        lent.fill(NO_TEXT);
+        bits::fill(lent, NO_TEXT);
         return None;
     }
     Some(end)

@@ -5,7 +5,7 @@
 
 use console::{Found, Lines, print, print_number};
 use rules::Refusal;
-use std::io::{Stderr, Stdin, Stdout, Write};
+use std::io::{Stderr, Stdin, Stdout};
 
 mod text;
 
@@ -25,7 +25,9 @@ fn reply<const N: usize>(output: &mut Stdout, letter: &[u8], answer: Result<[u64
             }
         }
         Err(refusal) => {
-            let _ = write!(output, "R {refusal}");
+            print(output, b"R");
+            print_number(output, refusal.number());
+            print_number(output, refusal.place() as u64);
         }
     }
 }
@@ -95,7 +97,7 @@ fn cases(mut input: Stdin, mut output: Stdout, errors: Stderr, buffer: &mut [u8]
     let mut lines = Lines::new();
     for _ in 0..u64::MAX {
         match lines.next(&mut input, buffer) {
-            Ok(Found::Line(line)) => case(&mut output, &buffer[line]),
+            Ok(Found::Line { start, end }) => case(&mut output, &buffer[start..end]),
             Ok(Found::TooLong) => print(&mut output, b"line too long\n"),
             Ok(Found::Nothing) => {}
             Ok(Found::End) => return,

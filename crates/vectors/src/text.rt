@@ -1,5 +1,5 @@
 // A line's words, and the numbers and byte strings that they spell.
-ghost use Rattle.std.specs.Prelude.{◌<◌, IfSome};
+ghost use Rattle.std.specs.Prelude.{◌<◌, ◌≤◌, IfSome, length};
 
 // What follows the first word and its blank.
 pub(crate) fn rest(s: &[u8]) -> &[u8] {
@@ -49,7 +49,9 @@ fn hex_byte(digits: &[u8]) -> Option<u8> {
 }
 
 // Puts the bytes that s starts with, in hexadecimal, at the start of out: none in "-".
-pub(crate) fn bytes<'a>(s: &[u8], out: &'a mut [u8]) -> &'a [u8] {
+pub(crate) fn bytes<'a>(s: &[u8], out: &'a mut [u8]) -> &'a [u8]
+    ensures { length result.now ≤ length out.old }
+{
     let mut pairs = s.chunks_exact(2);
     for (n, place) in out.iter_mut().enumerate() {
         let Some(byte) = pairs.next().and_then(hex_byte) else {

@@ -51,10 +51,11 @@ module _
           let read = told t b.table table in
           λ i. f (read.wires i) (read.channels i) (figures i)
 
-      answers : (w : Option ℕ) (left : List ℕ) → w ≡ written_of b.table.wires b.table.channels b.figures lent
+      answers : {r : Result ℕ Refusal} (w : Option ℕ) (left : List ℕ) → r ≡ ok_or w refusal.Buffer
+          → w ≡ written_of b.table.wires b.table.channels b.figures lent
           → left ≡ wrote_sheet b.table.wires b.table.channels b.figures lent
-          → (judging_reply (ok_or w refusal.Buffer) ≡ judge s lent) × IfOk (ok_or w refusal.Buffer) (λ n. left ≡ buffer s lent)
-      answers w left replied wrote =
+          → (judging_reply r ≡ judge s lent) × IfOk r (λ n. left ≡ buffer s lent)
+      answers w left is replied wrote =
           let reply : w ≡ written_of t.wires t.channels (figures_of t) lent
           = replied ∙ of_view (λ n m f. written_of n m f lent) in
           let sheet : left ≡ wrote_sheet t.wires t.channels (figures_of t) lent
@@ -62,10 +63,10 @@ module _
           elim (dec_le (length_of t) lent) [
             | yes l ↦
                 let e = judge-fits s lent (sym bounded) in_time l in
-                rw (reply, written_view t fits lent l)
+                rw (is, reply, written_view t fits lent l)
                 (sym e, sheet ∙ wrote_view t fits lent (length_of t ∷ []) l ∙ sym (buffer-of s lent _ e))
             | no o ↦
-                rw (reply, unwritten_view t fits lent (omega arith))
+                rw (is, reply, unwritten_view t fits lent (omega arith))
                 (sym (judge-short s lent (sym bounded) in_time (omega arith)), tt)
           ]
 
@@ -91,16 +92,28 @@ returns-in_err-in_time-in-Ok-clause-result_value c =
     (sym
     (judge-late s (length c.args.sheet.now) (sym b.answer) _ _ (c.in_err-in_time-in-Ok.ensures {u = tt} (view_of s) of)))
 
-pub returns-in_ok-in_time-in-Ok : goal.returns-in_ok-in_time-in-Ok
-returns-in_ok-in_time-in-Ok c =
+pub returns-in_err-length-in-Ok-clause-result_value : goal.returns-in_err-length-in-Ok-clause-result_value
+returns-in_err-length-in-Ok-clause-result_value c =
     let s = c.args.table.now in
     let e = c.bounds-bounds.ensures in
     let b = left s c.bounds-bounds.result c.in-Ok.bounded c.in-Ok.is e.answer_value e.table_value e.figures_value in
     let of = bounds-of s c.in-Ok.bounded b.answer b.table b.figures (length c.args.sheet.now) in
     let a = answers s c.in-Ok.bounded b.answer b.table b.figures (length c.args.sheet.now)
     (c.in_ok-in_time-in-Ok.ensures {u = tt} (view_of s) of)
-    c.write.result c.write.new.sheet c.write.ensures.value c.write.ensures.sheet_after in
-    record { result_value = rw c.ok_or.ensures.value a.0; sheet_after = rw c.ok_or.ensures.value a.1 }
+    c.write.result c.write.new.sheet c.in_err-length-in-Ok.ensures.value c.write.ensures.value c.write.ensures.sheet_after in
+    let p = err_from_is_err_and c.from_residual-in_err-length-in-Ok.result c.from_residual-in_err-length-in-Ok.ensures.1 in
+    rw (p.1, p.2) a.0
+
+pub returns-in_ok-length-in-Ok : goal.returns-in_ok-length-in-Ok
+returns-in_ok-length-in-Ok c =
+    let s = c.args.table.now in
+    let e = c.bounds-bounds.ensures in
+    let b = left s c.bounds-bounds.result c.in-Ok.bounded c.in-Ok.is e.answer_value e.table_value e.figures_value in
+    let of = bounds-of s c.in-Ok.bounded b.answer b.table b.figures (length c.args.sheet.now) in
+    let a = answers s c.in-Ok.bounded b.answer b.table b.figures (length c.args.sheet.now)
+    (c.in_ok-in_time-in-Ok.ensures {u = tt} (view_of s) of)
+    c.write.result c.write.new.sheet c.in_ok-length-in-Ok.ensures.value c.write.ensures.value c.write.ensures.sheet_after in
+    record { result_value = a.0; sheet_after = a.1 }
 
 pub returns-in-Err-clause-result_value : goal.returns-in-Err-clause-result_value
 returns-in-Err-clause-result_value c =

@@ -18,6 +18,6 @@ returns-then-is_err-clause-sheet_after c =
     let s = c.args.table.now in
     let lent = length c.args.sheet.now in
     let r = c.accept-answer in
-    c.fill.ensures.after (λ y e. e)
+    c.fill.ensures
     ∙ ap (λ (n : ℕ). replicate n 255) (omega arith)
     ∙ sym (refused-left s lent r.result (sym c.is_err.ensures.value ∙ c.if-is_err.true) r.ensures.result_value)

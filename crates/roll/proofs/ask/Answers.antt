@@ -51,4 +51,4 @@ pub returns : goal.returns
 returns c =
     let count = sym c.in_ok-count.ensures.ok_part ∙ c.count_of.ensures in
     let at = sym c.unwrap-at.ensures ∙ c.end_of.ensures in
-    rw c.from.ensures (asked c.args.roll.now c.in_ok-count.count c.args.number count (omega arith) c.unwrap-at.result at)
+    rw c.wide.ensures (asked c.args.roll.now c.in_ok-count.count c.args.number count (omega arith) c.unwrap-at.result at)

@@ -13,20 +13,20 @@ returns-in_err-first c =
 pub returns-then-not-contains : goal.returns-then-not-contains
 returns-then-not-contains c =
     let r = c.new.ensures in
-    let is = c.from-count.ensures ∙ c.in_ok-first.ensures.item.3.1 0 in
-    uncounted c.args.roll.now c.from-count.result is
-    (ranged c.from-count.result r.start r.end r.exhausted c.if-not-contains.ensures.value)
+    let is = c.wide-count.ensures ∙ c.in_ok-first.ensures.item.3.1 0 in
+    uncounted c.args.roll.now c.wide-count.result is
+    (ranged c.wide-count.result r.start r.end r.exhausted c.if-not-contains.ensures.value)
 
 pub returns-in_err-end : goal.returns-in_err-end
 returns-in_err-end c =
     let r = c.new.ensures in
-    let is = c.from-count.ensures ∙ c.in_ok-first.ensures.item.3.1 0 in
-    let counted = ranged c.from-count.result r.start r.end r.exhausted c.if-not-contains.ensures.value in
-    c.from_residual-in_err-end.ensures ∙ mislabelled c.args.roll.now c.from-count.result is counted c.in_err-end.ensures
+    let is = c.wide-count.ensures ∙ c.in_ok-first.ensures.item.3.1 0 in
+    let counted = ranged c.wide-count.result r.start r.end r.exhausted c.if-not-contains.ensures.value in
+    c.from_residual-in_err-end.ensures ∙ mislabelled c.args.roll.now c.wide-count.result is counted c.in_err-end.ensures
 
 pub returns : goal.returns
 returns c =
     let r = c.new.ensures in
-    let is = c.from-count.ensures ∙ c.in_ok-first.ensures.item.3.1 0 in
-    let counted = ranged c.from-count.result r.start r.end r.exhausted c.if-not-contains.ensures.value in
-    c.then_some.ensures ∙ labelled c.args.roll.now c.from-count.result is counted c.in_ok-end.end c.in_ok-end.ensures
+    let is = c.wide-count.ensures ∙ c.in_ok-first.ensures.item.3.1 0 in
+    let counted = ranged c.wide-count.result r.start r.end r.exhausted c.if-not-contains.ensures.value in
+    c.then_some.ensures ∙ labelled c.args.roll.now c.wide-count.result is counted c.in_ok-end.end c.in_ok-end.ensures

@@ -14,24 +14,24 @@ returns-in_err-get c =
 pub returns-then-not-contains : goal.returns-then-not-contains
 returns-then-not-contains c =
     let r = c.new.ensures in
-    let is = c.from-count.ensures ∙ c.in_ok-get.ensures.lookup.3.1 0 in
-    miscounted c.args.roll.now c.args.at c.from-count.result is
-    (ranged c.from-count.result r.start r.end r.exhausted c.if-not-contains.ensures.value)
+    let is = c.wide-count.ensures ∙ c.in_ok-get.ensures.lookup.3.1 0 in
+    miscounted c.args.roll.now c.args.at c.wide-count.result is
+    (ranged c.wide-count.result r.start r.end r.exhausted c.if-not-contains.ensures.value)
 
 pub returns-in_err-label : goal.returns-in_err-label
 returns-in_err-label c =
     let r = c.new.ensures in
-    let is = c.from-count.ensures ∙ c.in_ok-get.ensures.lookup.3.1 0 in
-    let counted = ranged c.from-count.result r.start r.end r.exhausted c.if-not-contains.ensures.value in
+    let is = c.wide-count.ensures ∙ c.in_ok-get.ensures.lookup.3.1 0 in
+    let counted = ranged c.wide-count.result r.start r.end r.exhausted c.if-not-contains.ensures.value in
     c.from_residual-in_err-label.ensures
-    ∙ cut-off c.args.roll.now c.args.at c.from-count.result is counted
+    ∙ cut-off c.args.roll.now c.args.at c.wide-count.result is counted
     (λ g. let f = c.in_err-label.ensures.lookup.1 (omega arith, g) in cc)
 
 pub returns : goal.returns
 returns c =
     let r = c.new.ensures in
-    let is = c.from-count.ensures ∙ c.in_ok-get.ensures.lookup.3.1 0 in
-    let counted = ranged c.from-count.result r.start r.end r.exhausted c.if-not-contains.ensures.value in
+    let is = c.wide-count.ensures ∙ c.in_ok-get.ensures.lookup.3.1 0 in
+    let counted = ranged c.wide-count.result r.start r.end r.exhausted c.if-not-contains.ensures.value in
     let part = c.in_ok-label.ensures.lookup.0 in
     c.then_some.ensures
-    ∙ printed c.args.roll.now c.args.at c.from-count.result is counted _ c.printable.result part.1 part.2 c.printable.ensures
+    ∙ printed c.args.roll.now c.args.at c.wide-count.result is counted _ c.printable.result part.1 part.2 c.printable.ensures

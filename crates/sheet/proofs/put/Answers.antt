@@ -66,7 +66,7 @@ put_channels-requires c =
 pub returns : goal.returns
 returns c =
     let a = c.args in
-    parts a.counts.wires a.counts.channels a.figures.now c.fill.new.self c.put_head.new.sheet
+    parts a.counts.wires a.counts.channels a.figures.now c.fill.new.s c.put_head.new.sheet
     c.put_wires.new.sheet c.put_channels.new.sheet (omega arith) (omega arith)
-    (c.fill.ensures.after (λ y e. e) ∙ ap (λ (k : ℕ). replicate k 0) c.requires.whole)
+    (c.fill.ensures ∙ ap (λ (k : ℕ). replicate k 0) c.requires.whole)
     c.put_head.ensures c.put_wires.ensures c.put_channels.ensures

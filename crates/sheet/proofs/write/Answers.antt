@@ -27,7 +27,7 @@ returns-in_err-counts-clause-value c =
 pub returns-in_err-counts-clause-sheet_after : goal.returns-in_err-counts-clause-sheet_after
 returns-in_err-counts-clause-sheet_after c =
     let a = c.args in
-    rw (uncounted a.wires a.channels a.figures.now (c.in_err-counts.ensures {u = tt}).answer) (c.fill.ensures.after (λ y e. e))
+    rw (uncounted a.wires a.channels a.figures.now (c.in_err-counts.ensures {u = tt}).answer) c.fill.ensures
 
 pub returns-clause-sheet_after : goal.returns-clause-sheet_after
 returns-clause-sheet_after c =
@@ -36,4 +36,4 @@ returns-clause-sheet_after c =
     let is = (c.in_ok-counts.ensures {u = tt}).counts in
     rw (← is.0, ← is.1)
     (wrote n.wires n.channels a.figures.now (sym c.fit.ensures ∙ c.if-not-fit.false) (length a.sheet.now) c.length-length.result
-    c.put.new.sheet c.fill.new.self c.length-length.ensures (omega arith) (c.fill.ensures.after (λ y e. e)) c.put.ensures)
+    c.put.new.sheet c.fill.new.s c.length-length.ensures (omega arith) c.fill.ensures c.put.ensures)

@@ -7,4 +7,4 @@ use Rattle.text.proofs.write.Goals as goal
 pub returns-clause-lent_after : goal.returns-clause-lent_after
 returns-clause-lent_after c =
     let a = c.args in
-    (written-whole (length a.lent.now) (text a.table.now) (c.fill.ensures.after (λ y e. e)) c.put_text-end.ensures (omega arith)).1
+    (written-whole (length a.lent.now) (text a.table.now) c.fill.ensures c.put_text-end.ensures (omega arith)).1

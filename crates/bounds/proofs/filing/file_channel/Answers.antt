@@ -48,13 +48,13 @@ overflow_mul-part c =
 pub loop-w-init : goal.loop-w-init
 loop-w-init c = λ t to. hops-start t c.args.k c.args.filed.now to.before
 
-pub bounds-filed-from : goal.bounds-filed-from
-bounds-filed-from c =
+pub bounds-filed-wide : goal.bounds-filed-wide
+bounds-filed-wide c =
     let t = c.requires.0 in
     let to = c.requires.1 in
     let l : c.loop-w.w-index < c.args.channel.now.hops = omega arith in
     hop-wire t c.args.k c.loop-w.filed to.sound to.less c.loop-w.w-index (short to c.loop-w.w-index l) (c.loop-w.invariant t to)
-    c.from-in-loop-w.result blank (c.from-in-loop-w.ensures ∙ hop_taken to c.from-3.ensures c.loop-w.w-index 0 l)
+    c.wide-in-loop-w.result blank (c.wide-in-loop-w.ensures ∙ hop_taken to c.wide.ensures c.loop-w.w-index 0 l)
 
 pub add-requires : goal.add-requires
 add-requires c =
@@ -62,13 +62,13 @@ add-requires c =
     let to = c.requires.1 in
     let i = c.loop-w.w-index in
     let l : i < c.args.channel.now.hops = omega arith in
-    let is = c.from-in-loop-w.ensures ∙ hop_taken to c.from-3.ensures i 0 l in
+    let is = c.wide-in-loop-w.ensures ∙ hop_taken to c.wide.ensures i 0 l in
     let part = adds to c.from.ensures c.from-2.ensures in (
-      hop-place t c.args.k c.loop-w.filed to.sound to.less i (short to i l) (c.loop-w.invariant t to) c.from-in-loop-w.result blank is,
+      hop-place t c.args.k c.loop-w.filed to.sound to.less i (short to i l) (c.loop-w.invariant t to) c.wide-in-loop-w.result blank is,
       omega (
         arith,
         part.0,
-        hop-load t c.args.k c.loop-w.filed to.sound to.less i (short to i l) (c.loop-w.invariant t to) c.from-in-loop-w.result blank is,
+        hop-load t c.args.k c.loop-w.filed to.sound to.less i (short to i l) (c.loop-w.invariant t to) c.wide-in-loop-w.result blank is,
       ),
     )
 
@@ -76,19 +76,19 @@ pub loop-w-preserved : goal.loop-w-preserved
 loop-w-preserved c = λ t to.
     (let i = c.loop-w.w-index in
     let l : i < c.args.channel.now.hops = omega arith in
-    let is = c.from-in-loop-w.ensures ∙ hop_taken to c.from-3.ensures i 0 l in
+    let is = c.wide-in-loop-w.ensures ∙ hop_taken to c.wide.ensures i 0 l in
     let part = adds to c.from.ensures c.from-2.ensures in
     rw c.add.ensures
-    (hop_filed t c.args.k c.loop-w.filed to.sound to.less i (short to i l) (c.loop-w.invariant t to) c.from-in-loop-w.result blank is
+    (hop_filed t c.args.k c.loop-w.filed to.sound to.less i (short to i l) (c.loop-w.invariant t to) c.wide-in-loop-w.result blank is
     (c.from.result * c.from-2.result) part.0))
 
-pub bounds-filed-from-2 : goal.bounds-filed-from-2
-bounds-filed-from-2 c =
+pub bounds-filed-wide-2 : goal.bounds-filed-wide-2
+bounds-filed-wide-2 c =
     let t = c.requires.0 in
     let to = c.requires.1 in
-    first_wire to (c.from-4.ensures ∙ hop to 0 0 (some-hop to))
+    first_wire to (c.wide-2.ensures ∙ hop to 0 0 (some-hop to))
 
 pub returns : goal.returns
 returns c = λ t to.
     hops-end t c.args.k c.loop-w.filed to.sound to.less c.loop-w.w-index (omega (arith, (told to).hops)) (c.loop-w.invariant t to)
-    c.from-4.result blank (c.from-4.ensures ∙ hop to 0 0 (some-hop to))
+    c.wide-2.result blank (c.wide-2.ensures ∙ hop to 0 0 (some-hop to))

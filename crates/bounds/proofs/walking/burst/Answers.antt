@@ -48,7 +48,7 @@ pub share-sum-requires-clause-part_fits : goal.share-sum-requires-clause-part_fi
 share-sum-requires-clause-part_fits c =
     let r = c.requires in
     let l : c.loop-k.k-index < length c.channels-k-items.result.now = omega arith in
-    told_part r.gathers c.channels-k-items.ensures c.loop-k.k-index l c.from-k.ensures c.loop-k.invariant c.args.price.now r.priced
+    told_part r.gathers c.channels-k-items.ensures c.loop-k.k-index l c.wide-k.ensures c.loop-k.invariant c.args.price.now r.priced
 
 pub share-sum-requires-clause-share_fits : goal.share-sum-requires-clause-share_fits
 share-sum-requires-clause-share_fits c =
@@ -56,8 +56,8 @@ share-sum-requires-clause-share_fits c =
     let l : c.loop-k.k-index < length c.channels-k-items.result.now = omega arith in
     omega (
       arith,
-      told_share r.gathers c.channels-k-items.ensures c.loop-k.k-index l c.from-k.ensures c.loop-k.invariant c.args.price.now r.priced,
-      next_small r.gathers c.channels-k-items.ensures c.loop-k.k-index l c.from-k.ensures c.loop-k.invariant,
+      told_share r.gathers c.channels-k-items.ensures c.loop-k.k-index l c.wide-k.ensures c.loop-k.invariant c.args.price.now r.priced,
+      next_small r.gathers c.channels-k-items.ensures c.loop-k.k-index l c.wide-k.ensures c.loop-k.invariant,
     )
 
 pub overflow_add-sum : goal.overflow_add-sum
@@ -67,8 +67,8 @@ overflow_add-sum c =
     omega (
       arith,
       c.share-sum.ensures,
-      told_share r.gathers c.channels-k-items.ensures c.loop-k.k-index l c.from-k.ensures c.loop-k.invariant c.args.price.now r.priced,
-      next_small r.gathers c.channels-k-items.ensures c.loop-k.k-index l c.from-k.ensures c.loop-k.invariant,
+      told_share r.gathers c.channels-k-items.ensures c.loop-k.k-index l c.wide-k.ensures c.loop-k.invariant c.args.price.now r.priced,
+      next_small r.gathers c.channels-k-items.ensures c.loop-k.k-index l c.wide-k.ensures c.loop-k.invariant,
     )
 
 pub loop-k-preserved : goal.loop-k-preserved
@@ -78,6 +78,6 @@ loop-k-preserved c =
     omega (
       arith,
       c.share-sum.ensures,
-      told_share r.gathers c.channels-k-items.ensures c.loop-k.k-index l c.from-k.ensures c.loop-k.invariant c.args.price.now r.priced,
-      next r.gathers c.channels-k-items.ensures c.loop-k.k-index l c.from-k.ensures c.loop-k.invariant,
+      told_share r.gathers c.channels-k-items.ensures c.loop-k.k-index l c.wide-k.ensures c.loop-k.invariant c.args.price.now r.priced,
+      next r.gathers c.channels-k-items.ensures c.loop-k.k-index l c.wide-k.ensures c.loop-k.invariant,
     )

@@ -10,10 +10,10 @@ overflow_add-known c =
     omega (
       arith,
       raised-fits c.args.channels.now c.args.by c.args.known.now c.requires c.loop-k.k-index (omega arith) c.loop-k.known
-          c.loop-k.invariant c.from.result c.from.ensures,
+          c.loop-k.invariant c.wide.result c.wide.ensures,
     )
 
 pub loop-k-preserved : goal.loop-k-preserved
 loop-k-preserved c =
     raised-next c.args.channels.now c.args.by c.args.known.now c.requires c.loop-k.k-index (omega arith) c.loop-k.known
-    c.loop-k.invariant c.from.result c.from.ensures (omega arith)
+    c.loop-k.invariant c.wide.result c.wide.ensures (omega arith)

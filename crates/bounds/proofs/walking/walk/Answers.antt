@@ -50,8 +50,8 @@ returns-then-from-backlog-clause-answered c = λ t to.
     from-stop (room_test t) t.wires w (wire-less to.read w l) (c.loop-w.invariant.search t to)
     (over-stops to under w l (c.loop-w.invariant.walking t to) c.burst.ensures c.hold.ensures (omega arith)))
 
-pub div_ceil-delay-requires : goal.div_ceil-delay-requires
-div_ceil-delay-requires c =
+pub slots-delay-requires : goal.slots-delay-requires
+slots-delay-requires c =
     let to = c.requires.to_walk.1 in
     omega (arith, rate_at_least to (c.args.filing.now.all _ to.read) c.loop-w.w (omega arith))
 
@@ -61,7 +61,7 @@ raise-requires c =
     let under = c.args.filing.now.all _ to.read in
     rw c.saturating_sub.ensures
     (spare-jitters to under c.loop-w.w (omega arith) (c.loop-w.invariant.walking _ to) c.burst.ensures c.hold.ensures
-    (omega arith) c.div_ceil-delay.ensures c.channels-channels.ensures)
+    (omega arith) c.slots-delay.ensures c.channels-channels.ensures)
 
 pub overflow_add-delay : goal.overflow_add-delay
 overflow_add-delay c =
@@ -70,7 +70,7 @@ overflow_add-delay c =
     omega (
       arith,
       spent-fits to under c.loop-w.w (omega arith) (c.loop-w.invariant.walking _ to) c.burst.ensures c.hold.ensures
-          (omega arith) c.div_ceil-delay.ensures,
+          (omega arith) c.slots-delay.ensures,
     )
 
 pub raise-requires-in-loop-w : goal.raise-requires-in-loop-w
@@ -79,7 +79,7 @@ raise-requires-in-loop-w c =
     let under = c.args.filing.now.all _ to.read in
     rw c.from-in-loop-w.ensures
     (spare-ends to under c.loop-w.w (omega arith) (c.loop-w.invariant.walking _ to) c.burst.ensures c.hold.ensures
-    (omega arith) c.div_ceil-delay.ensures c.channels-channels.ensures)
+    (omega arith) c.slots-delay.ensures c.channels-channels.ensures)
 
 pub loop-w-preserved : goal.loop-w-preserved
 loop-w-preserved c =
@@ -94,7 +94,7 @@ loop-w-preserved c =
       walking = λ t to.
           (let under = c.args.filing.now.all t to.read in
           next to under w l (c.loop-w.invariant.walking t to) c.burst.ensures c.hold.ensures (omega arith)
-          c.div_ceil-delay.ensures c.channels-channels.ensures (rw c.saturating_sub.ensures at c.raise.ensures)
+          c.slots-delay.ensures c.channels-channels.ensures (rw c.saturating_sub.ensures at c.raise.ensures)
           (rw c.from-in-loop-w.ensures at c.raise-in-loop-w.ensures));
     }
 
