@@ -44,6 +44,7 @@ fn accept(table: &[u8], sheet: &mut [u8]) -> Result<usize, Refusal>
     match &bounds {
         Ok(bounded) => {
             in_time(bounded)?;
+            // By name, so that a wrong program can change it alone.
             let length = sheet::write(
                 sheet,
                 bounded.table.wires,

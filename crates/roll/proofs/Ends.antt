@@ -56,15 +56,15 @@ module _ (roll : List ℕ) (at : ℕ) where
           faulty (sound_at roll at) (behind roll at)
           (past roll at (omega (arith, c.0, is)) (omega (arith, c.1, is)) (omega (arith, h, is)))
 
-      pub printed : (part : List ℕ) (b : Bool) → at + 1 + count ≤ length roll
-          → part ≡ slice_range roll (at + 1) (at + 1 + count) → b ≡ list_all (λ byte. between 32 byte 126) part
+      pub printed : (end : ℕ) (part : List ℕ) (b : Bool) → end ≡ at + 1 + count → end ≤ length roll
+          → part ≡ slice_range roll (at + 1) end → b ≡ list_all (λ byte. between 32 byte 126) part
           → then_some b (at + 1 + count) ≡ then_some (sound_at roll at) (behind roll at)
-      printed part b short e h =
+      printed end part b at-end short e h =
           let c = between-told 1 count label_most counted in
           let each : every (λ i. between 32 (get_or roll (at + 1 + i) 0) 126) count ≡ b
-          = every_part (λ byte. between 32 byte 126) roll (at + 1) count short ∙ rw (h, e) refl in
+          = every_part (λ byte. between 32 byte 126) roll (at + 1) count (omega (arith, short, at-end)) ∙ rw (h, e, at-end) refl in
           rw (
-            inside roll at (omega (arith, c.0, is)) (omega (arith, c.1, is)) (omega (arith, short, is)) b (sym (rw is at each)),
+            inside roll at (omega (arith, c.0, is)) (omega (arith, c.1, is)) (omega (arith, short, at-end, is)) b (sym (rw is at each)),
             is,
           )
           refl

@@ -84,10 +84,22 @@ label-one = answer-one (λ label. label.start ∷ label.length ∷ []) (λ x y e
 pub reading-one : (a b : Result (Unit {0}) Refusal) → reading_reply a ≡ reading_reply b → a ≡ b
 reading-one = answer-one (λ a. []) (λ x y e. refl)
 
--- of answers whose value is one, where it is granted: but for that value they are answers as above
+-- an answer without its value, which has the same reply
+abbrev bare : {A : Type 0} → Result A Refusal → Result (Unit {0}) Refusal
+bare (Ok v) = Ok tt
+bare (Err r) = Err r
+
+bare-reply : {A : Type 0} (a : Result A Refusal) → reading_reply (bare a) ≡ reading_reply a
+bare-reply (Ok v) = refl
+bare-reply (Err r) = refl
+
+bare-one : {A : Type 0} (x : A) (a b : Result A Refusal) → bare a ≡ bare b → IfOk a (λ v. v ≡ x) → IfOk b (λ v. v ≡ x) → a ≡ b
+bare-one x (Ok v) (Ok w) e p q = rw (p, q)
+bare-one x (Ok v) (Err s) e p q = cc
+bare-one x (Err r) (Ok w) e p q = cc
+bare-one x (Err r) (Err s) e p q = let h : r ≡ s = cc in rw h
+
+-- of answers whose value is one, where it is granted
 pub granted-one : {A : Type 0} (x : A) (a b : Result A Refusal) → reading_reply a ≡ reading_reply b
     → IfOk a (λ v. v ≡ x) → IfOk b (λ v. v ≡ x) → a ≡ b
-granted-one x (Ok v) (Ok w) e p q = rw (p, q)
-granted-one x (Ok v) (Err s) e p q = let h : Ok tt ≡ Err s = reading-one (Ok tt) (Err s) e in cc h
-granted-one x (Err r) (Ok w) e p q = let h : Err r ≡ Ok tt = reading-one (Err r) (Ok tt) e in cc h
-granted-one x (Err r) (Err s) e p q = let h : r ≡ s = cc (reading-one (Err r) (Err s) e) in rw h
+granted-one x a b e p q = bare-one x a b (reading-one (bare a) (bare b) (bare-reply a ∙ e ∙ sym (bare-reply b))) p q

@@ -25,7 +25,7 @@ returns-in_err-label c =
     let counted = ranged c.wide-count.result r.start r.end r.exhausted c.if-not-contains.ensures.value in
     c.from_residual-in_err-label.ensures
     ∙ cut-off c.args.roll.now c.args.at c.wide-count.result is counted
-    (λ g. let f = c.in_err-label.ensures.lookup.1 (omega arith, g) in cc)
+    (λ g. let f = c.in_err-label.ensures.lookup.1 (omega (arith, g), omega (arith, g)) in cc)
 
 pub returns : goal.returns
 returns c =
@@ -34,4 +34,5 @@ returns c =
     let counted = ranged c.wide-count.result r.start r.end r.exhausted c.if-not-contains.ensures.value in
     let part = c.in_ok-label.ensures.lookup.0 in
     c.then_some.ensures
-    ∙ printed c.args.roll.now c.args.at c.wide-count.result is counted _ c.printable.result part.1 part.2 c.printable.ensures
+    ∙ printed c.args.roll.now c.args.at c.wide-count.result is counted _ _ c.printable.result (omega arith) part.1 part.2
+    c.printable.ensures
